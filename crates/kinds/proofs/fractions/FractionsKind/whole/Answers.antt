@@ -1,0 +1,9 @@
+use mathlib.Core.Path.{sym, _∙_, ap}
+use Rattle.kinds.specs.Arith.{whole-of}
+use Rattle.kinds.specs.Pairs.{put}
+use Rattle.kinds.specs.Meanings.{fraction-arith, whole-is}
+use Rattle.kinds.proofs.fractions.FractionsKind.whole.Needs as need
+
+pub returns : need.returns
+unfolding whole-of fraction-arith
+returns c = c .pair .ensures ∙ ap put (c .whole .ensures ∙ sym (whole-is (c .args .n)))
