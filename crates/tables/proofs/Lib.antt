@@ -1,0 +1,5 @@
+pub mod Numbers
+pub mod Pasts
+pub mod Placing
+pub mod Walks
+pub mod Zeros

@@ -1,0 +1,4 @@
+pub mod Degrees
+pub mod Dimensions
+pub mod Places
+pub mod Steps

@@ -1,0 +1,5 @@
+pub mod degree;
+pub mod dimension;
+pub mod monomial;
+pub mod moves;
+pub mod steps;

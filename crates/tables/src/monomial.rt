@@ -1,0 +1,161 @@
+ghost use mathlib.Core.Bool.{true};
+ghost use mathlib.Core.Path.{_≡_};
+ghost use Prim.Native.Nat.{_<_};
+ghost use Rattle.std.specs.Slices.{found};
+ghost use Rattle.tables.specs.Dimensions.{size-of};
+ghost use Rattle.tables.specs.Places.{monomial, exponents, exponent-of, fits, placed, next-of, Below, Apart};
+use crate::dimension::Dimension;
+
+#[derive(Clone, Copy)]
+pub enum Axis {
+    X,
+    Y,
+    Z,
+}
+
+// x^a y^b z^c
+#[derive(Clone, Copy)]
+pub struct Monomial {
+    pub a: u8,
+    pub b: u8,
+    pub c: u8,
+}
+
+impl Monomial {
+    pub fn one() -> Monomial
+        ensures { λ r. ⌜ r ≡ monomial 0 0 0 ⌝ }
+    {
+        Monomial { a: 0, b: 0, c: 0 }
+    }
+
+    pub fn degree(self) -> usize
+        ensures { λ r. ⌜ r ≡ exponents self ⌝ }
+    {
+        self.a as usize + self.b as usize + self.c as usize
+    }
+
+    pub fn exponent(self, axis: Axis) -> u8
+        ensures { λ r. ⌜ r ≡ exponent-of axis self ⌝ }
+    {
+        match axis {
+            Axis::X => self.a,
+            Axis::Y => self.b,
+            Axis::Z => self.c,
+        }
+    }
+
+    // Whether a table has a place for it.
+    pub fn fits(self, dimension: Dimension) -> bool
+        ensures { λ r. ⌜ r ≡ fits dimension self ⌝ }
+    {
+        match dimension {
+            Dimension::Plane => self.degree() <= 12 && self.c == 0,
+            Dimension::Space => self.degree() <= 12,
+        }
+    }
+
+    // Its place in a table, if it has one.
+    pub fn place(self, dimension: Dimension) -> Option<usize>
+        ensures value { λ r. ⌜ r ≡ placed dimension self ⌝ }
+        ensures below { λ r. ⌜ found r (λ p. p < size-of dimension) ⌝ }
+    {
+        if !self.fits(dimension) {
+            return None;
+        }
+        let n = self.degree();
+        let a = self.a as usize;
+        let b = self.b as usize;
+        match dimension {
+            Dimension::Plane => Some(n * (n + 1) / 2 + b),
+            Dimension::Space => Some(
+                n * (n + 1) * (n + 2) / 6 + (n - a) * (n - a + 1) / 2 + (n - a - b),
+            ),
+        }
+    }
+
+    // The monomial at the next place.
+    pub(crate) fn next(self, dimension: Dimension) -> Monomial
+        ensures { λ r. ⌜ (fits dimension self ≡ true → r ≡ next-of dimension self) ⌝ }
+    {
+        let Monomial { a, b, c } = self;
+        match dimension {
+            Dimension::Plane => {
+                if a > 0 {
+                    Monomial {
+                        a: a - 1,
+                        b: b.saturating_add(1),
+                        c: 0,
+                    }
+                } else {
+                    Monomial {
+                        a: b.saturating_add(1),
+                        b: 0,
+                        c: 0,
+                    }
+                }
+            }
+            Dimension::Space => {
+                if b > 0 {
+                    Monomial {
+                        a,
+                        b: b - 1,
+                        c: c.saturating_add(1),
+                    }
+                } else if a > 0 {
+                    Monomial {
+                        a: a - 1,
+                        b: c.saturating_add(1),
+                        c: 0,
+                    }
+                } else {
+                    Monomial {
+                        a: c.saturating_add(1),
+                        b: 0,
+                        c: 0,
+                    }
+                }
+            }
+        }
+    }
+
+    // Times a coordinate; an exponent stops at the largest number, which no table has a place for.
+    pub(crate) fn raised(self, axis: Axis) -> Monomial {
+        let Monomial { a, b, c } = self;
+        match axis {
+            Axis::X => Monomial {
+                a: a.saturating_add(1),
+                b,
+                c,
+            },
+            Axis::Y => Monomial {
+                a,
+                b: b.saturating_add(1),
+                c,
+            },
+            Axis::Z => Monomial {
+                a,
+                b,
+                c: c.saturating_add(1),
+            },
+        }
+    }
+
+    // Divided by a coordinate, where it has it.
+    pub(crate) fn lowered(self, axis: Axis) -> Option<Monomial> {
+        if self.exponent(axis) == 0 {
+            return None;
+        }
+        let Monomial { a, b, c } = self;
+        match axis {
+            Axis::X => Some(Monomial { a: a - 1, b, c }),
+            Axis::Y => Some(Monomial { a, b: b - 1, c }),
+            Axis::Z => Some(Monomial { a, b, c: c - 1 }),
+        }
+    }
+}
+
+// Every monomial of degree at most 12 has a place of its own in its table.
+pub fn places_are_apart()
+    ensures below { λ _. ⌜ Below ⌝ }
+    ensures apart { λ _. ⌜ Apart ⌝ }
+{}
