@@ -1,0 +1,7 @@
+pub mod constant;
+pub mod laplacian;
+pub mod matrix;
+pub mod operator;
+mod quadratic;
+mod questions;
+pub mod shape;
