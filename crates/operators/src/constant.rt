@@ -24,12 +24,24 @@ pub struct Constant<V> {
 }
 
 // The source times a value, into the target.
-fn scaled<K: Kind>(k: &K, dimension: Dimension, by: K::Value, source: &[K::Value], target: &mut [K::Value]) -> Result<(), Fault> {
+fn scaled<K: Kind>(
+    k: &K,
+    dimension: Dimension,
+    by: K::Value,
+    source: &[K::Value],
+    target: &mut [K::Value],
+) -> Result<(), Fault> {
     copy(dimension.size(), source, target);
     multiply(k, dimension, target, by)
 }
 
-fn quotient<K: Kind>(k: &K, dimension: Dimension, by: K::Value, source: &[K::Value], target: &mut [K::Value]) -> Result<u32, Fault> {
+fn quotient<K: Kind>(
+    k: &K,
+    dimension: Dimension,
+    by: K::Value,
+    source: &[K::Value],
+    target: &mut [K::Value],
+) -> Result<u32, Fault> {
     if degree_asked(k, dimension, 0, source)?.is_none() {
         clear(k, dimension.size(), target);
         return Ok(0);
@@ -68,18 +80,42 @@ pub impl<V: Copy> Lifting for Constant<V> as ConstantLifting {
 }
 
 pub impl<V: Copy, K: Kind<Value = V>> Forward<K> for Constant<V> as ConstantForward {
-    fn apply(&self, k: &K, source: &mut [V], target: &mut [V], work: &mut [V]) -> Result<(), Fault> {
+    fn apply(
+        &self,
+        k: &K,
+        source: &mut [V],
+        target: &mut [V],
+        work: &mut [V],
+    ) -> Result<(), Fault> {
         let dimension = pile_asked(self)?;
-        room_asked(dimension, SIMPLE_NEED, source.len(), target.len(), work.len())?;
+        room_asked(
+            dimension,
+            SIMPLE_NEED,
+            source.len(),
+            target.len(),
+            work.len(),
+        )?;
         let answer = scaled(k, dimension, self.value, source, target);
         settled(k, dimension, SIMPLE_NEED, target, work, answer)
     }
 }
 
 pub impl<V: Copy, K: Kind<Value = V>> Solvable<K> for Constant<V> as ConstantSolvable {
-    fn solve(&self, k: &K, source: &mut [V], target: &mut [V], work: &mut [V]) -> Result<u32, Fault> {
+    fn solve(
+        &self,
+        k: &K,
+        source: &mut [V],
+        target: &mut [V],
+        work: &mut [V],
+    ) -> Result<u32, Fault> {
         let dimension = pile_asked(self)?;
-        room_asked(dimension, SIMPLE_NEED, source.len(), target.len(), work.len())?;
+        room_asked(
+            dimension,
+            SIMPLE_NEED,
+            source.len(),
+            target.len(),
+            work.len(),
+        )?;
         let answer = quotient(k, dimension, self.value, source, target);
         settled(k, dimension, SIMPLE_NEED, target, work, answer)
     }

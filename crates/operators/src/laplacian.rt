@@ -45,7 +45,12 @@ fn divisor(d: u8, n: usize, l: usize) -> u8
 }
 
 // The inverses of all divisors for a part of degree n, by rising l, at the front of `inverses`.
-fn invert_divisors<K: Kind>(k: &K, dimension: Dimension, n: usize, inverses: &mut [K::Value]) -> Result<(), Fault>
+fn invert_divisors<K: Kind>(
+    k: &K,
+    dimension: Dimension,
+    n: usize,
+    inverses: &mut [K::Value],
+) -> Result<(), Fault>
     requires { ⌜ n ≤ 10 ⌝ ∗ ⌜ 6 ≤ length (now inverses) ⌝ }
 {
     for l in 0..n / 2 + 1 {
@@ -83,7 +88,16 @@ fn join_power<K: Kind>(
     let (one, two) = rest.split_at_mut(size);
     copy(size, w, power);
     for _i in 0..l + 1 {
-        quadratic(k, dimension, Reading::Coordinate, inverse, power, next, one, two)?;
+        quadratic(
+            k,
+            dimension,
+            Reading::Coordinate,
+            inverse,
+            power,
+            next,
+            one,
+            two,
+        )?;
         copy(size, next, power);
     }
     add_into(k, dimension, target, power)
@@ -204,7 +218,16 @@ fn action<K: Kind>(
     requires { ⌜ tables-of dimension 6 ≤ length (now work) ⌝ }
 {
     let (one, two) = work.split_at_mut(dimension.size());
-    quadratic(k, dimension, Reading::Derivative, matrix, source, target, one, two)
+    quadratic(
+        k,
+        dimension,
+        Reading::Derivative,
+        matrix,
+        source,
+        target,
+        one,
+        two,
+    )
 }
 
 pub impl<V: Copy> Shape for Laplacian<V> as LaplacianShape {
@@ -236,18 +259,42 @@ pub impl<V: Copy> Lifting for Laplacian<V> as LaplacianLifting {
 }
 
 pub impl<V: Copy, K: Kind<Value = V>> Forward<K> for Laplacian<V> as LaplacianForward {
-    fn apply(&self, k: &K, source: &mut [V], target: &mut [V], work: &mut [V]) -> Result<(), Fault> {
+    fn apply(
+        &self,
+        k: &K,
+        source: &mut [V],
+        target: &mut [V],
+        work: &mut [V],
+    ) -> Result<(), Fault> {
         let dimension = pile_asked(self)?;
-        room_asked(dimension, SIMPLE_NEED, source.len(), target.len(), work.len())?;
+        room_asked(
+            dimension,
+            SIMPLE_NEED,
+            source.len(),
+            target.len(),
+            work.len(),
+        )?;
         let answer = action(k, dimension, &self.matrix, source, target, work);
         settled(k, dimension, SIMPLE_NEED, target, work, answer)
     }
 }
 
 pub impl<V: Copy, K: Kind<Value = V>> Solvable<K> for Laplacian<V> as LaplacianSolvable {
-    fn solve(&self, k: &K, source: &mut [V], target: &mut [V], work: &mut [V]) -> Result<u32, Fault> {
+    fn solve(
+        &self,
+        k: &K,
+        source: &mut [V],
+        target: &mut [V],
+        work: &mut [V],
+    ) -> Result<u32, Fault> {
         let dimension = pile_asked(self)?;
-        room_asked(dimension, SIMPLE_NEED, source.len(), target.len(), work.len())?;
+        room_asked(
+            dimension,
+            SIMPLE_NEED,
+            source.len(),
+            target.len(),
+            work.len(),
+        )?;
         let answer = solution(k, dimension, &self.matrix, source, target, work);
         settled(k, dimension, SIMPLE_NEED, target, work, answer)
     }

@@ -4,4 +4,5 @@ pub mod matrix;
 pub mod operator;
 mod quadratic;
 mod questions;
+pub mod remainder;
 pub mod shape;

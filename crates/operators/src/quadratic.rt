@@ -16,7 +16,14 @@ pub(crate) enum Reading {
     Coordinate,
 }
 
-fn moved<K: Kind>(k: &K, dimension: Dimension, reading: Reading, axis: Axis, from: &[K::Value], to: &mut [K::Value]) -> Result<(), Fault> {
+fn moved<K: Kind>(
+    k: &K,
+    dimension: Dimension,
+    reading: Reading,
+    axis: Axis,
+    from: &[K::Value],
+    to: &mut [K::Value],
+) -> Result<(), Fault> {
     match reading {
         Reading::Derivative => derivative(k, dimension, axis, from, to),
         Reading::Coordinate => {
@@ -57,7 +64,16 @@ fn join_mixed<K: Kind>(
 ) -> Result<(), Fault> {
     let (first, second, value) = by;
     let double = k.sum(value, value)?;
-    join_term(k, dimension, reading, (first, second, double), from, to, one, two)
+    join_term(
+        k,
+        dimension,
+        reading,
+        (first, second, double),
+        from,
+        to,
+        one,
+        two,
+    )
 }
 
 fn join_space<K: Kind>(
@@ -70,12 +86,66 @@ fn join_space<K: Kind>(
     two: &mut [K::Value],
 ) -> Result<(), Fault> {
     let d = Dimension::Space;
-    join_term(k, d, reading, (Axis::X, Axis::X, form.xx), from, to, one, two)?;
-    join_mixed(k, d, reading, (Axis::X, Axis::Y, form.xy), from, to, one, two)?;
-    join_mixed(k, d, reading, (Axis::X, Axis::Z, form.xz), from, to, one, two)?;
-    join_term(k, d, reading, (Axis::Y, Axis::Y, form.yy), from, to, one, two)?;
-    join_mixed(k, d, reading, (Axis::Y, Axis::Z, form.yz), from, to, one, two)?;
-    join_term(k, d, reading, (Axis::Z, Axis::Z, form.zz), from, to, one, two)
+    join_term(
+        k,
+        d,
+        reading,
+        (Axis::X, Axis::X, form.xx),
+        from,
+        to,
+        one,
+        two,
+    )?;
+    join_mixed(
+        k,
+        d,
+        reading,
+        (Axis::X, Axis::Y, form.xy),
+        from,
+        to,
+        one,
+        two,
+    )?;
+    join_mixed(
+        k,
+        d,
+        reading,
+        (Axis::X, Axis::Z, form.xz),
+        from,
+        to,
+        one,
+        two,
+    )?;
+    join_term(
+        k,
+        d,
+        reading,
+        (Axis::Y, Axis::Y, form.yy),
+        from,
+        to,
+        one,
+        two,
+    )?;
+    join_mixed(
+        k,
+        d,
+        reading,
+        (Axis::Y, Axis::Z, form.yz),
+        from,
+        to,
+        one,
+        two,
+    )?;
+    join_term(
+        k,
+        d,
+        reading,
+        (Axis::Z, Axis::Z, form.zz),
+        from,
+        to,
+        one,
+        two,
+    )
 }
 
 fn join_plane<K: Kind>(
@@ -88,9 +158,36 @@ fn join_plane<K: Kind>(
     two: &mut [K::Value],
 ) -> Result<(), Fault> {
     let d = Dimension::Plane;
-    join_term(k, d, reading, (Axis::X, Axis::X, form.xx), from, to, one, two)?;
-    join_mixed(k, d, reading, (Axis::X, Axis::Y, form.xy), from, to, one, two)?;
-    join_term(k, d, reading, (Axis::Y, Axis::Y, form.yy), from, to, one, two)
+    join_term(
+        k,
+        d,
+        reading,
+        (Axis::X, Axis::X, form.xx),
+        from,
+        to,
+        one,
+        two,
+    )?;
+    join_mixed(
+        k,
+        d,
+        reading,
+        (Axis::X, Axis::Y, form.xy),
+        from,
+        to,
+        one,
+        two,
+    )?;
+    join_term(
+        k,
+        d,
+        reading,
+        (Axis::Y, Axis::Y, form.yy),
+        from,
+        to,
+        one,
+        two,
+    )
 }
 
 // A quadratic form of derivatives, or of coordinates, on the table `from`, into `to`: its terms by rows of the upper

@@ -19,6 +19,13 @@ const MOST_TABLES: u64 = 4294967295;
 // The working tables of an operator that is no layer.
 pub(crate) const SIMPLE_NEED: u64 = 6;
 
+// A layer keeps four tables and hands the others down; a need past the most that a call can have stays there.
+pub(crate) fn layer_need(one: u64, other: u64) -> u64
+    ensures { λ r. ⌜ 4 ≤ r ⌝ }
+{
+    one.max(other).saturating_add(4).min(MOST_TABLES + 1)
+}
+
 // The question on the dimension of an operator that is no layer.
 pub(crate) fn leaf_dimension(given: u64) -> Result<Dimension, Fault> {
     match Dimension::of(given) {
@@ -48,8 +55,14 @@ pub(crate) fn pile_asked<O: Shape>(o: &O) -> Result<Dimension, Fault> {
 }
 
 // Whether the lent slices are long enough.
-pub(crate) fn room_asked(dimension: Dimension, need: u64, source: usize, target: usize, work: usize) -> Result<(), Fault>
-    ensures { λ r. ⌜ made r (λ _. Roomy dimension need source target work) ⌝ }
+pub(crate) fn room_asked(
+    dimension: Dimension,
+    need: u64,
+    source: usize,
+    target: usize,
+    work: usize,
+) -> Result<(), Fault>
+    ensures { λ r. ⌜ made r (λ _. Roomy dimension need source target work × (need ≤ 4294967295)) ⌝ }
 {
     let size = dimension.size();
     if need > MOST_TABLES || source < size || target < size || work < values(dimension, need) {
@@ -59,7 +72,12 @@ pub(crate) fn room_asked(dimension: Dimension, need: u64, source: usize, target:
 }
 
 // Whether the degree of the source leaves room for the lift; a zero source is not asked, and has no degree.
-pub(crate) fn degree_asked<K: Kind>(k: &K, dimension: Dimension, lift: u32, source: &[K::Value]) -> Result<Option<usize>, Fault>
+pub(crate) fn degree_asked<K: Kind>(
+    k: &K,
+    dimension: Dimension,
+    lift: u32,
+    source: &[K::Value],
+) -> Result<Option<usize>, Fault>
     ensures { λ r. ⌜ made r (λ o. found o (λ n. n + lift ≤ 12)) ⌝ }
 {
     match degree(k, dimension, source) {
@@ -75,7 +93,14 @@ pub(crate) fn degree_asked<K: Kind>(k: &K, dimension: Dimension, lift: u32, sour
 
 // How every call ends that has passed the questions on room: the working tables as zeros, and the target too where it
 // is refused.
-pub(crate) fn settled<K: Kind, T>(k: &K, dimension: Dimension, need: u64, target: &mut [K::Value], work: &mut [K::Value], answer: Result<T, Fault>) -> Result<T, Fault>
+pub(crate) fn settled<K: Kind, T>(
+    k: &K,
+    dimension: Dimension,
+    need: u64,
+    target: &mut [K::Value],
+    work: &mut [K::Value],
+    answer: Result<T, Fault>,
+) -> Result<T, Fault>
     requires { ⌜ need ≤ 4294967295 ⌝ }
     ensures { λ r. ⌜ r ≡ answer ⌝ }
 {
