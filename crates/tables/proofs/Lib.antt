@@ -1,3 +1,4 @@
+pub mod Misplaced
 pub mod Numbers
 pub mod Pasts
 pub mod Placing

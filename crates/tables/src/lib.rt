@@ -3,3 +3,4 @@ pub mod dimension;
 pub mod monomial;
 pub mod moves;
 pub mod steps;
+pub mod terms;

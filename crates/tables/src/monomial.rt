@@ -74,7 +74,7 @@ impl Monomial {
     }
 
     // The monomial at the next place.
-    pub(crate) fn next(self, dimension: Dimension) -> Monomial
+    pub fn next(self, dimension: Dimension) -> Monomial
         ensures { λ r. ⌜ (fits dimension self ≡ true → r ≡ next-of dimension self) ⌝ }
     {
         let Monomial { a, b, c } = self;

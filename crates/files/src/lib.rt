@@ -1,0 +1,10 @@
+pub mod limit;
+mod line;
+mod part;
+pub mod read;
+pub mod reader;
+pub mod row;
+mod scan;
+pub mod table;
+pub mod token;
+pub mod write;

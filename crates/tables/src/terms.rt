@@ -1,0 +1,60 @@
+ghost use mathlib.Core.Path.{_≡_};
+ghost use Prim.Native.Nat.{_<_};
+ghost use lib.ListN.{length};
+ghost use Rattle.tables.specs.Dimensions.{size-of};
+ghost use Rattle.tables.specs.Outcomes.{Told};
+ghost use Rattle.tables.specs.Steps.{Past, Short};
+ghost use Rattle.tables.specs.Terms.{misplaced};
+use crate::dimension::Dimension;
+use crate::monomial::Monomial;
+use kinds::fault::Fault;
+use kinds::fault::Question;
+use kinds::kind::Kind;
+
+// A coefficient with its monomial.
+#[derive(Clone, Copy)]
+pub struct Term<V> {
+    pub monomial: Monomial,
+    pub value: V,
+}
+
+// Whether each term has a place in a table.
+pub fn ask_monomials<V>(dimension: Dimension, terms: &[Term<V>]) -> Result<(), Fault>
+    ensures { λ r. ⌜ Told (misplaced dimension 0 (now (terms .entry))) r ⌝ }
+{
+    for i in 0..terms.len() {
+        if !terms[i].monomial.fits(dimension) {
+            return Err(Fault::no(Question::Monomial, i as u64));
+        }
+    }
+    Ok(())
+}
+
+// Adds one term; its fault tells the place in the table that was to be written.
+fn add_term<K: Kind>(k: &K, place: usize, value: K::Value, table: &mut [K::Value]) -> Result<(), Fault>
+    requires { ⌜ place < length (now table) ⌝ }
+{
+    match k.sum(table[place], value) {
+        Ok(v) => {
+            table[place] = v;
+            Ok(())
+        }
+        Err(e) => Err(e.at(place as u64)),
+    }
+}
+
+// Adds the terms to a table, in their order.
+pub fn add_terms<K: Kind>(k: &K, dimension: Dimension, terms: &[Term<K::Value>], table: &mut [K::Value]) -> Result<(), Fault>
+    ensures short { λ r. ⌜ Short (length (now (table .entry))) (size-of dimension) (now (table .entry)) (now (table .exit)) r ⌝ }
+{
+    if table.len() < dimension.size() {
+        return Err(Fault::no(Question::Tables, 0));
+    }
+    for i in 0..terms.len() {
+        match terms[i].monomial.place(dimension) {
+            Some(place) => add_term(k, place, terms[i].value, table)?,
+            None => return Err(Fault::no(Question::Monomial, i as u64)),
+        }
+    }
+    Ok(())
+}
