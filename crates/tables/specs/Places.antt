@@ -1,7 +1,7 @@
 -- The place of a monomial x^a y^b z^c in a table: by rising degree, then by falling exponent of x, then of y.
 use mathlib.Core.Path.{_≡_}
-use mathlib.Core.Bool.{Bool, true, cond, _&&_}
-use Prim.Native.Nat.{ℕ, zero, suc, _+_, _-_, _*_, _/_, _<_}
+use mathlib.Core.Bool.{Bool, cond, _&&_}
+use Prim.Native.Nat.{ℕ, zero, suc, _+_, _-_, _*_, _/_}
 use lib.Dec.{leb, eqb}
 use Rattle.std.specs.declared.option.Option.{Option}
 use Rattle.std.specs.declared.option.Option.the-variants.{None, Some}
@@ -10,7 +10,6 @@ use Rattle.tables.specs.declared.dimension.Dimension.the-variants.{Plane, Spac
 use Rattle.tables.specs.declared.monomial.Axis.{Axis}
 use Rattle.tables.specs.declared.monomial.Axis.the-variants.{X, Y, Z}
 use Rattle.tables.specs.declared.monomial.Monomial.{Monomial}
-use Rattle.tables.specs.Dimensions.{size-of}
 
 abbrev pub monomial : ℕ → ℕ → ℕ → Monomial
 monomial a b c = record { a = a; b = b; c = c }
@@ -51,10 +50,6 @@ abbrev pub next-of : Dimension → Monomial → Monomial
 next-of Plane m = plane-next (m .a) (m .b)
 next-of Space m = space-next (m .b) (m .a) (m .c)
 
--- each place lies in its table
-abbrev pub Below : Type 0
-Below = (d : Dimension) (m : Monomial) → fits d m ≡ true → place-of d m < size-of d
-
--- two monomials never share a place
-abbrev pub Apart : Type 0
-Apart = (d : Dimension) (m n : Monomial) → fits d m ≡ true → fits d n ≡ true → place-of d m ≡ place-of d n → m ≡ n
+-- no other monomial has the place
+abbrev pub Alone : Dimension → Monomial → ℕ → Type 0
+Alone d m p = (n : Monomial) → placed d n ≡ Some p → n ≡ m

@@ -3,7 +3,7 @@ ghost use mathlib.Core.Path.{_≡_};
 ghost use Prim.Native.Nat.{_<_};
 ghost use Rattle.std.specs.Slices.{found};
 ghost use Rattle.tables.specs.Dimensions.{size-of};
-ghost use Rattle.tables.specs.Places.{monomial, exponents, exponent-of, fits, placed, next-of, Below, Apart};
+ghost use Rattle.tables.specs.Places.{monomial, exponents, exponent-of, fits, placed, next-of, Alone};
 use crate::dimension::Dimension;
 
 #[derive(Clone, Copy)]
@@ -58,6 +58,7 @@ impl Monomial {
     pub fn place(self, dimension: Dimension) -> Option<usize>
         ensures value { λ r. ⌜ r ≡ placed dimension self ⌝ }
         ensures below { λ r. ⌜ found r (λ p. p < size-of dimension) ⌝ }
+        ensures own { λ r. ⌜ found r (λ p. Alone dimension self p) ⌝ }
     {
         if !self.fits(dimension) {
             return None;
@@ -153,9 +154,3 @@ impl Monomial {
         }
     }
 }
-
-// Every monomial of degree at most 12 has a place of its own in its table.
-pub fn places_are_apart()
-    ensures below { λ _. ⌜ Below ⌝ }
-    ensures apart { λ _. ⌜ Apart ⌝ }
-{}

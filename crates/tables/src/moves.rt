@@ -100,7 +100,7 @@ pub fn part<K: Kind>(
 )
     ensures past { λ _. ⌜ Past (size-of dimension) (now (to .entry)) (now (to .exit)) ⌝ }
 {
-    let end = dimension.size().min(to.len());
+    let end = to.len().min(dimension.size());
     let zero = k.whole(0);
     let mut m = Monomial::one();
     for p in 0..end {

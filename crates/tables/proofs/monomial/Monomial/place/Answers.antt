@@ -10,7 +10,7 @@ returns-in-Plane c =
     let p =
     placing (c .args .dimension) m _ (sym (c .if-not-fits .ensures tt))
     (ap (λ n. n * (n + 1) / 2 + m .b) (c .degree-n .ensures) ∙ ap (λ d. place-of d m) (sym (c .in-Plane .is))) in
-    record { value = p .0; below = p .1 }
+    record { value = p .0; below = p .1; own = p .2 }
 
 pub returns-in-Space : need.returns-in-Space
 returns-in-Space c =
@@ -18,4 +18,4 @@ returns-in-Space c =
     let p =
     placing (c .args .dimension) m _ (sym (c .if-not-fits .ensures tt))
     (ap (λ n. n * (n + 1) * (n + 2) / 6 + (n - m .a) * (n - m .a + 1) / 2 + (n - m .a - m .b)) (c .degree-n .ensures) ∙ ap (λ d. place-of d m) (sym (c .in-Space .is))) in
-    record { value = p .0; below = p .1 }
+    record { value = p .0; below = p .1; own = p .2 }
