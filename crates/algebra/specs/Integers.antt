@@ -1,41 +1,16 @@
--- The ring of the integers.
+-- The ring of the integers, and its image in every ring.
 use mathlib.Core.Path.{_≡_, refl, sym, _∙_, ap, ap₂}
 use mathlib.Core.Option.{Option, some, none}
-use mathlib.Core.Bool.{Bool, true, false}
-use Prim.Native.Nat.{ℕ, zero, suc, _+_, _*_}
+use Prim.Native.Nat.{ℕ, zero, suc, _+_, _*_, _/_, _<_, _∣_}
 use native.Mathlib.Omega.{arith}
 use native.Mathlib.Nat as N
-use lib.IntN.{
-  ℤ,
-  pos,
-  negsuc,
-  _+ℤ_,
-  _*ℤ_,
-  negℤ,
-  sucℤ,
-  predℤ,
-  ℤ-set,
-  ℤ-discrete,
-  +ℤ-assoc,
-  +ℤ-comm,
-  +ℤ-idr,
-  +ℤ-idl,
-  +ℤ-invr,
-  *ℤ-one,
-  *ℤ-comm,
-  zero-*ℤ,
-  *ℤ-zero,
-  sucℤ-*ℤ,
-  predℤ-*ℤ,
-  +ℤ-sucℤ,
-  +ℤ-predℤ,
-  negℤ-+ℤ,
-  negℤ-negℤ,
-  pos-ne-negsuc,
-}
+use native.Mathlib.Nat.{div-mul-cancel, eq-of-mul-eq-mul-right}
+use lib.IntN.{ℤ, pos, negsuc, _+ℤ_, _*ℤ_, negℤ, natAbs, sucℤ, predℤ, ℤ-set, ℤ-discrete, +ℤ-assoc, +ℤ-comm, +ℤ-idr, +ℤ-idl, +ℤ-invr, *ℤ-one, *ℤ-comm, zero-*ℤ, sucℤ-*ℤ, predℤ-*ℤ, +ℤ-sucℤ, +ℤ-predℤ, negℤ-negℤ, pos-ne-negsuc}
+use lib.Signed.{quotZ}
+use borrow.Author.Differences.{up, down, same-out, same-in, product-is}
 use Rattle.algebra.specs.Ring.{Ring}
-use Rattle.algebra.specs.RingLaws.{cancel}
-use Rattle.algebra.specs.Solver.{_:+_, _:*_, _:-_, _:=_, solve₂}
+use Rattle.algebra.specs.RingLaws.{nat, nat-zero, nat-one, nat-suc, zero-mul, neg-zero, neg-neg, neg-dist, add-left-comm}
+use Rattle.algebra.specs.Solver.{:1, _:+_, _:*_, :-_, _:-_, _:=_, solve₁, solve₂, solve₃}
 
 -- what holds of 0, and goes over to the successor and to the predecessor
 pub ℤ-ind : (P : ℤ → Type 0) → P (pos 0) → ((k : ℤ) → P k → P (sucℤ k)) → ((k : ℤ) → P k → P (predℤ k)) → (k : ℤ) → P k
@@ -55,7 +30,7 @@ add-mulℤ a b c =
 pub mul-addℤ : (a b c : ℤ) → a *ℤ (b +ℤ c) ≡ (a *ℤ b) +ℤ (a *ℤ c)
 mul-addℤ a b c = *ℤ-comm a (b +ℤ c) ∙ add-mulℤ b c a ∙ ap₂ _+ℤ_ (*ℤ-comm b a) (*ℤ-comm c a)
 
-neg-mulℤ : (a b : ℤ) → negℤ a *ℤ b ≡ negℤ (a *ℤ b)
+pub neg-mulℤ : (a b : ℤ) → negℤ a *ℤ b ≡ negℤ (a *ℤ b)
 neg-mulℤ a b =
     let e : (negℤ a *ℤ b) +ℤ (a *ℤ b) ≡ pos 0 = sym (add-mulℤ (negℤ a) a b) ∙ ap (λ x. x *ℤ b) (+ℤ-comm (negℤ a) a ∙ +ℤ-invr a) ∙ zero-*ℤ b in
     sym (+ℤ-idr _) ∙ ap (λ x. (negℤ a *ℤ b) +ℤ x) (sym (+ℤ-invr (a *ℤ b))) ∙ sym (+ℤ-assoc (negℤ a *ℤ b) (a *ℤ b) (negℤ (a *ℤ b))) ∙ ap (λ x. x +ℤ negℤ (a *ℤ b)) e ∙ +ℤ-idl (negℤ (a *ℤ b))
@@ -128,12 +103,101 @@ integers = record {
   inv-none = invertℤ-none;
 }
 
--- the solver at the integers
-diff-squares : (a b : ℤ) → (a +ℤ b) *ℤ (a +ℤ negℤ b) ≡ (a *ℤ a) +ℤ negℤ (b *ℤ b)
-unfolding integers
-diff-squares = solve₂ integers (λ a b. (a :+ b) :* (a :- b) := a :* a :- b :* b) tt
+-- ---- absolute values and quotients
 
--- an instance of a general theorem
-cancelℤ : (a b c : ℤ) → a +ℤ b ≡ a +ℤ c → b ≡ c
+pub abs-neg : (z : ℤ) → natAbs (negℤ z) ≡ natAbs z
+abs-neg (pos zero) = refl
+abs-neg (pos (suc n)) = refl
+abs-neg (negsuc n) = refl
+
+pub abs-mul : (a b : ℤ) → natAbs (a *ℤ b) ≡ natAbs a * natAbs b
+abs-mul (pos a) (pos b) = refl
+abs-mul (pos a) (negsuc b) = abs-neg (pos (a * suc b))
+abs-mul (negsuc a) (pos b) = abs-neg (pos (suc a * b))
+abs-mul (negsuc a) (negsuc b) = refl
+
+pub abs-zero : (z : ℤ) → natAbs z ≡ 0 → z ≡ pos 0
+abs-zero (pos n) h = ap pos h
+abs-zero (negsuc n) h = absurd (omega arith)
+
+pub cancelℤ : (a b : ℤ) (d : ℕ) → 0 < d → a *ℤ pos d ≡ b *ℤ pos d → a ≡ b
+cancelℤ a b d h e =
+    let s = same-out (a *ℤ pos d) (b *ℤ pos d) e in
+    let p = product-is a (pos d) in
+    let q = product-is b (pos d) in
+    let u : up a * d ≡ up b * d = omega arith in
+    let v : down a * d ≡ down b * d = omega arith in
+    same-in a b (ap₂ _+_ (eq-of-mul-eq-mul-right d h (up a) (up b) u) (sym (eq-of-mul-eq-mul-right d h (down a) (down b) v)))
+
+pub abs-quot : (n : ℤ) (g : ℕ) → natAbs (quotZ n (pos g)) ≡ natAbs n / g
+abs-quot (pos a) g = refl
+abs-quot (negsuc a) g = abs-neg (pos (suc a / g))
+
+pub quot-times : (n : ℤ) (g : ℕ) → g ∣ natAbs n → quotZ n (pos g) *ℤ pos g ≡ n
+quot-times (pos a) g h = ap pos (div-mul-cancel g h)
+quot-times (negsuc a) g h = neg-mulℤ (pos (suc a / g)) (pos g) ∙ ap (λ t. negℤ (pos t)) (div-mul-cancel g h)
+
+pub swap-last : (a b c : ℤ) → (a *ℤ b) *ℤ c ≡ (a *ℤ c) *ℤ b
 unfolding integers
-cancelℤ a b c = cancel integers a b c
+swap-last = solve₃ integers (λ a b c. (a :* b) :* c := (a :* c) :* b) tt
+
+-- ---- the image of an integer
+
+module _ {C : Type 0} (R : Ring C) where
+  open Ring R using (𝟘, 𝟙, add as _+R_, mul as _*R_, neg, add-assoc, add-comm, add-zero, add-neg)
+
+  infixl 60 _+R_
+  infixl 70 _*R_
+  unfoldable pub int : ℤ → C
+  int (pos n) = nat R n
+  int (negsuc n) = neg (nat R (suc n))
+
+  pub int-pos : (n : ℕ) → int (pos n) ≡ nat R n
+  unfolding int
+  int-pos n = refl
+
+  pub int-neg : (z : ℤ) → int (negℤ z) ≡ neg (int z)
+  unfolding int
+  int-neg (pos zero) = nat-zero R ∙ sym (neg-zero R) ∙ ap neg (sym (nat-zero R))
+  int-neg (pos (suc n)) = refl
+  int-neg (negsuc n) = sym (neg-neg R (nat R (suc n)))
+
+  back : (a : C) → a ≡ neg 𝟙 +R (𝟙 +R a)
+  back = solve₁ R (λ a. a := (:-_ :1) :+ (:1 :+ a)) tt
+
+  out : (a : C) → 𝟙 +R neg (𝟙 +R a) ≡ neg a
+  out = solve₁ R (λ a. :1 :+ (:-_ (:1 :+ a)) := :-_ a) tt
+
+  pub int-suc : (z : ℤ) → int (sucℤ z) ≡ 𝟙 +R int z
+  unfolding int
+  int-suc (pos n) = nat-suc R n
+  int-suc (negsuc zero) = nat-zero R ∙ sym (add-neg 𝟙) ∙ ap (λ t. 𝟙 +R neg t) (sym (nat-one R))
+  int-suc (negsuc (suc n)) = sym (ap (λ t. 𝟙 +R neg t) (nat-suc R (suc n)) ∙ out (nat R (suc n)))
+
+  pub int-pred : (z : ℤ) → int (predℤ z) ≡ neg 𝟙 +R int z
+  unfolding int
+  int-pred (pos zero) = ap neg (nat-one R) ∙ sym (ap (λ t. neg 𝟙 +R t) (nat-zero R) ∙ add-zero (neg 𝟙))
+  int-pred (pos (suc n)) = back (nat R n) ∙ ap (λ t. neg 𝟙 +R t) (sym (nat-suc R n))
+  int-pred (negsuc n) = ap neg (nat-suc R (suc n)) ∙ neg-dist R 𝟙 (nat R (suc n))
+
+  pub int-add : (a b : ℤ) → int (a +ℤ b) ≡ int a +R int b
+  int-add a b =
+      ℤ-ind (λ b. int (a +ℤ b) ≡ int a +R int b)
+      (ap int (+ℤ-idr a) ∙ sym (ap (λ t. int a +R t) (int-pos 0 ∙ nat-zero R) ∙ add-zero (int a)))
+      (λ k h. ap int (+ℤ-sucℤ a k) ∙ int-suc (a +ℤ k) ∙ ap (λ t. 𝟙 +R t) h ∙ add-left-comm R 𝟙 (int a) (int k) ∙ ap (λ t. int a +R t) (sym (int-suc k)))
+      (λ k h. ap int (+ℤ-predℤ a k) ∙ int-pred (a +ℤ k) ∙ ap (λ t. neg 𝟙 +R t) h ∙ add-left-comm R (neg 𝟙) (int a) (int k) ∙ ap (λ t. int a +R t) (sym (int-pred k)))
+      b
+
+  pub int-mul : (a b : ℤ) → int (a *ℤ b) ≡ int a *R int b
+  int-mul a b =
+      ℤ-ind (λ a. int (a *ℤ b) ≡ int a *R int b)
+      (ap int (zero-*ℤ b) ∙ int-pos 0 ∙ nat-zero R ∙ sym (ap (λ t. t *R int b) (int-pos 0 ∙ nat-zero R) ∙ zero-mul R (int b)))
+      (λ k h. ap int (sucℤ-*ℤ k b) ∙ int-add (k *ℤ b) b ∙ ap (λ t. t +R int b) h ∙ sym (ap (λ t. t *R int b) (int-suc k) ∙ more (int k) (int b)))
+      (λ k h. ap int (predℤ-*ℤ k b) ∙ int-add (k *ℤ b) (negℤ b) ∙ ap₂ _+R_ h (int-neg b) ∙ sym (ap (λ t. t *R int b) (int-pred k) ∙ less (int k) (int b)))
+      a
+    where
+      more : (x y : C) → (𝟙 +R x) *R y ≡ x *R y +R y
+      more = solve₂ R (λ x y. (:1 :+ x) :* y := x :* y :+ y) tt
+
+      less : (x y : C) → (neg 𝟙 +R x) *R y ≡ x *R y +R neg y
+      less = solve₂ R (λ x y. ((:-_ :1) :+ x) :* y := x :* y :- y) tt

@@ -1,6 +1,11 @@
 pub mod Ring
 pub mod RingLaws
 pub mod Solver
+pub mod Adjugate
 pub mod Integers
 pub mod Gcd
+pub mod Remainders
+pub mod Bezout
 pub mod Rationals
+pub mod Residues
+pub mod Stated

@@ -1,19 +1,19 @@
 -- The rational numbers: fractions in lowest terms, without limit of size.
 use mathlib.Core.Path.{_≡_, refl, sym, _∙_, ap, ap₂, subst}
 use mathlib.Core.HLevel.{isProp→PathP, hedberg, Discrete}
+use mathlib.Core.Bool.{Bool, true, false, cond, not}
 use mathlib.Core.Option.{Option, some, none}
-use Prim.Native.Nat.{ℕ, zero, suc, _+_, _*_, _/_, _<_, _∣_}
-use native.Mathlib.Nat.{div-mul-cancel, mul-div-cancel', dvd-mul-left, pos-of-dvd-of-pos, eq-of-mul-eq-mul-right, mul-pos, mul-one, zero-lt-suc}
+use Prim.Native.Nat.{ℕ, zero, suc, _*_, _/_, _<_, _∣_}
+use native.Mathlib.Nat.{mul-div-cancel', dvd-mul-left, pos-of-dvd-of-pos, mul-pos, mul-one, div-one, zero-div, zero-lt-suc}
 use native.Mathlib.Bridge.{le-prop}
 use native.Mathlib.Decide.{ℕ-discrete}
 use native.Mathlib.Omega.{arith}
-use lib.IntN.{ℤ, pos, negsuc, negℤ, natAbs, _+ℤ_, _*ℤ_, ℤ-discrete}
+use lib.IntN.{ℤ, pos, negsuc, negℤ, natAbs, _+ℤ_, _*ℤ_, ℤ-discrete, negℤ-negℤ}
 use lib.Signed.{quotZ}
-use borrow.Author.Differences.{up, down, same-out, same-in, product-is}
 use Rattle.algebra.specs.Ring.{Ring}
-use Rattle.algebra.specs.RingLaws.{neg-mul}
-use Rattle.algebra.specs.Solver.{:0, :1, _:+_, _:*_, :-_, _:=_, solve₁, solve₂, solve₃, solve₄, solve₆}
-use Rattle.algebra.specs.Integers.{integers, mul-assocℤ}
+use Rattle.algebra.specs.RingLaws.{nat, nat-zero, nat-suc, neg-mul, inv-is}
+use Rattle.algebra.specs.Solver.{:0, :1, _:+_, _:*_, :-_, _:=_, solve₁, solve₂, solve₄, solve₆}
+use Rattle.algebra.specs.Integers.{integers, mul-assocℤ, pos-inj, abs-neg, abs-mul, abs-zero, abs-quot, quot-times, cancelℤ, swap-last}
 use Rattle.algebra.specs.Gcd.{gcd, gcd-is, gcd-one, gcd-comm, gcd-quotients, lowest-den}
 
 pub record ℚ : Type 0 where
@@ -29,37 +29,6 @@ pub ℚ-same : (x y : ℚ) → x .num ≡ y .num → x .den ≡ y .den → x ≡
   positive = isProp→PathP (λ i. 0 < q i) (λ i. le-prop) (x .positive) (y .positive) i;
   lowest = isProp→PathP (λ i. gcd (natAbs (p i)) (q i) ≡ 1) (λ i. hedberg ℕ-discrete (gcd (natAbs (p i)) (q i)) 1) (x .lowest) (y .lowest) i;
 }
-
--- ---- integers
-
-pub abs-neg : (z : ℤ) → natAbs (negℤ z) ≡ natAbs z
-abs-neg (pos zero) = refl
-abs-neg (pos (suc n)) = refl
-abs-neg (negsuc n) = refl
-
-pub abs-mul : (a b : ℤ) → natAbs (a *ℤ b) ≡ natAbs a * natAbs b
-abs-mul (pos a) (pos b) = refl
-abs-mul (pos a) (negsuc b) = abs-neg (pos (a * suc b))
-abs-mul (negsuc a) (pos b) = abs-neg (pos (suc a * b))
-abs-mul (negsuc a) (negsuc b) = refl
-
-pub cancelℤ : (a b : ℤ) (d : ℕ) → 0 < d → a *ℤ pos d ≡ b *ℤ pos d → a ≡ b
-cancelℤ a b d h e =
-    let s = same-out (a *ℤ pos d) (b *ℤ pos d) e in
-    let p = product-is a (pos d) in
-    let q = product-is b (pos d) in
-    let u : up a * d ≡ up b * d = omega arith in
-    let v : down a * d ≡ down b * d = omega arith in
-    same-in a b (ap₂ _+_ (eq-of-mul-eq-mul-right d h (up a) (up b) u) (sym (eq-of-mul-eq-mul-right d h (down a) (down b) v)))
-
-pub abs-quot : (n : ℤ) (g : ℕ) → natAbs (quotZ n (pos g)) ≡ natAbs n / g
-abs-quot (pos a) g = refl
-abs-quot (negsuc a) g = abs-neg (pos (suc a / g))
-
-pub quot-times : (n : ℤ) (g : ℕ) → g ∣ natAbs n → quotZ n (pos g) *ℤ pos g ≡ n
-unfolding integers
-quot-times (pos a) g h = ap pos (div-mul-cancel g h)
-quot-times (negsuc a) g h = neg-mul integers (pos (suc a / g)) (pos g) ∙ ap (λ t. negℤ (pos t)) (div-mul-cancel g h)
 
 -- ---- lowest terms
 
@@ -100,11 +69,6 @@ reduced n d h =
       positive = h;
       cross = ap (λ t. t *ℤ pos (d / g)) (sym (quot-times n g (is .left))) ∙ mul-assocℤ m (pos g) (pos (d / g)) ∙ ap (λ t. m *ℤ pos t) (mul-div-cancel' g (is .right));
     }
-
--- (a b) (c d) = (a d) (b c) and the like
-pub swap-last : (a b c : ℤ) → (a *ℤ b) *ℤ c ≡ (a *ℤ c) *ℤ b
-unfolding integers
-swap-last = solve₃ integers (λ a b c. (a :* b) :* c := (a :* c) :* b) tt
 
 pub change : {n m : ℤ} {d e : ℕ} {q : ℚ} → Value n d q → 0 < e → n *ℤ pos e ≡ m *ℤ pos d → Value m e q
 change {n} {m} {d} {e} {q} v h c = record {
@@ -228,9 +192,6 @@ distrib a b c =
     (solve₆ integers (λ n d m e k f. (n :* (m :* f :+ k :* e)) :* ((d :* e) :* (d :* f)) := ((n :* m) :* (d :* f) :+ (n :* k) :* (d :* e)) :* (d :* (e :* f))) tt
     (a .num) (pos (a .den)) (b .num) (pos (b .den)) (c .num) (pos (c .den)))
 
-pos-inj : (m n : ℕ) → pos m ≡ pos n → m ≡ n
-pos-inj m n e = cc
-
 pub one≢zero : ¬ (oneℚ ≡ zeroℚ)
 unfolding oneℚ zeroℚ
 one≢zero e = let z : _≡_ {A = ℕ} 1 0 = pos-inj 1 0 (ap (λ (q : ℚ). q .num) e) in omega arith
@@ -319,3 +280,149 @@ rationals = record {
   inv-some = inv-some;
   inv-none = inv-none;
 }
+
+-- ---- ratios
+
+-- n / d, and 0 for d = 0
+unfoldable pub ratio : ℤ → ℤ → ℚ
+ratio n (pos zero) = zeroℚ
+ratio n (pos (suc d)) = reduce n (suc d) (zero-lt-suc d)
+ratio n (negsuc d) = reduce (negℤ n) (suc d) (zero-lt-suc d)
+
+pub ratio-zero : (n : ℤ) → ratio n (pos 0) ≡ zeroℚ
+unfolding ratio
+ratio-zero n = refl
+
+pub ratio-value : (n : ℤ) (d : ℕ) → 0 < d → Value n d (ratio n (pos d))
+unfolding ratio
+ratio-value n zero h = absurd (omega arith)
+ratio-value n (suc d) h = reduced n (suc d) (zero-lt-suc d)
+
+pub ratio-own : (q : ℚ) → ratio (q .num) (pos (q .den)) ≡ q
+ratio-own q = same (ratio-value (q .num) (q .den) (q .positive)) (own q) refl
+
+-- the sign of the denominator goes over to the numerator
+pub ratio-sign : (n d : ℤ) → ratio (negℤ n) (negℤ d) ≡ ratio n d
+unfolding ratio
+ratio-sign n (pos zero) = refl
+ratio-sign n (pos (suc d)) = ap (λ t. reduce t (suc d) (zero-lt-suc d)) (negℤ-negℤ n)
+ratio-sign n (negsuc d) = refl
+
+pub ratio-add : (a c : ℤ) (b d : ℕ) → 0 < b → 0 < d → addℚ (ratio a (pos b)) (ratio c (pos d)) ≡ ratio (a *ℤ pos d +ℤ c *ℤ pos b) (pos (b * d))
+ratio-add a c b d h k =
+    same (add-value (ratio-value a b h) (ratio-value c d k)) (ratio-value (a *ℤ pos d +ℤ c *ℤ pos b) (b * d) (mul-pos h k)) refl
+
+pub ratio-mul : (a c : ℤ) (b d : ℕ) → 0 < b → 0 < d → mulℚ (ratio a (pos b)) (ratio c (pos d)) ≡ ratio (a *ℤ c) (pos (b * d))
+ratio-mul a c b d h k =
+    same (mul-value (ratio-value a b h) (ratio-value c d k)) (ratio-value (a *ℤ c) (b * d) (mul-pos h k)) refl
+
+pub ratio-neg : (a : ℤ) (b : ℕ) → 0 < b → negℚ (ratio a (pos b)) ≡ ratio (negℤ a) (pos b)
+ratio-neg a b h = same (neg-value (ratio-value a b h)) (ratio-value (negℤ a) b h) refl
+
+pub ratio-same : (a c : ℤ) (b d : ℕ) → 0 < b → 0 < d → a *ℤ pos d ≡ c *ℤ pos b → ratio a (pos b) ≡ ratio c (pos d)
+ratio-same a c b d h k e = same (ratio-value a b h) (ratio-value c d k) e
+
+quot-one : (n : ℤ) → quotZ n (pos 1) ≡ n
+quot-one (pos n) = ap pos (div-one n)
+quot-one (negsuc n) = ap (λ t. negℤ (pos t)) (div-one (suc n))
+
+-- a pair in lowest terms is what it is the ratio of
+pub ratio-num : (n : ℤ) (d : ℕ) → 0 < d → gcd (natAbs n) d ≡ 1 → ratio n (pos d) .num ≡ n
+unfolding ratio reduce
+ratio-num n zero h e = absurd (omega arith)
+ratio-num n (suc d) h e = ap (λ t. quotZ n (pos t)) e ∙ quot-one n
+
+pub ratio-den : (n : ℤ) (d : ℕ) → 0 < d → gcd (natAbs n) d ≡ 1 → ratio n (pos d) .den ≡ d
+unfolding ratio reduce
+ratio-den n zero h e = absurd (omega arith)
+ratio-den n (suc d) h e = ap (λ t. suc d / t) e ∙ div-one (suc d)
+
+-- ---- a ratio by sign and magnitude, as code computes it
+
+abbrev pub negative : ℤ → Bool
+negative (pos n) = false
+negative (negsuc n) = true
+
+-- whether the quotient of n and d is negative, or zero
+abbrev pub opposite : ℤ → ℤ → Bool
+opposite n d = cond (negative n) (not (negative d)) (negative d)
+
+abbrev pub signed : Bool → ℕ → ℤ
+signed false m = pos m
+signed true m = negℤ (pos m)
+
+pub abs-signed : (s : Bool) (m : ℕ) → natAbs (signed s m) ≡ m
+abs-signed true m = abs-neg (pos m)
+abs-signed false m = refl
+
+pub ratio-num-is : (n d : ℤ) → 0 < natAbs d → ratio n d .num ≡ signed (opposite n d) (natAbs n / gcd (natAbs n) (natAbs d))
+unfolding ratio reduce
+ratio-num-is n (pos zero) h = absurd (omega arith)
+ratio-num-is (pos a) (pos (suc d)) h = refl
+ratio-num-is (negsuc a) (pos (suc d)) h = refl
+ratio-num-is (pos zero) (negsuc d) h = ap pos (zero-div _) ∙ ap (λ t. negℤ (pos t)) (sym (zero-div (gcd 0 (suc d))))
+ratio-num-is (pos (suc a)) (negsuc d) h = refl
+ratio-num-is (negsuc a) (negsuc d) h = refl
+
+pub ratio-den-is : (n d : ℤ) → 0 < natAbs d → ratio n d .den ≡ natAbs d / gcd (natAbs n) (natAbs d)
+unfolding ratio reduce
+ratio-den-is n (pos zero) h = absurd (omega arith)
+ratio-den-is n (pos (suc d)) h = refl
+ratio-den-is n (negsuc d) h = ap (λ t. suc d / gcd t (suc d)) (abs-neg n)
+
+-- ---- whole numbers
+
+pub nat-value : (n : ℕ) → Value (pos n) 1 (nat rationals n)
+unfolding rationals
+nat-value zero = rw (nat-zero rationals) zero-value
+nat-value (suc n) = rw (nat-suc rationals n) (change (add-value one-value (nat-value n)) (zero-lt-suc 0) (ap pos (omega arith)))
+
+pub nat-ratio : (n : ℕ) → nat rationals n ≡ ratio (pos n) (pos 1)
+nat-ratio n = same (nat-value n) (ratio-value (pos n) 1 (zero-lt-suc 0)) refl
+
+pub zero-ratio : ratio (pos 0) (pos 1) ≡ zeroℚ
+zero-ratio = same (ratio-value (pos 0) 1 (zero-lt-suc 0)) zero-value refl
+
+pub one-ratio : ratio (pos 1) (pos 1) ≡ oneℚ
+one-ratio = same (ratio-value (pos 1) 1 (zero-lt-suc 0)) one-value refl
+
+-- ---- the inverse
+
+-- the inverse, and 0 for 0
+unfoldable pub invert : ℚ → ℚ
+invert q = ratio (pos (q .den)) (q .num)
+
+pub zero-numerator : zeroℚ .num ≡ pos 0
+unfolding zeroℚ
+zero-numerator = refl
+
+pub num-not-zero : (q : ℚ) → ¬ (q ≡ zeroℚ) → ¬ (natAbs (q .num) ≡ 0)
+num-not-zero q h e = h (zero-num q (abs-zero (q .num) e))
+
+pub not-zero : (q : ℚ) → ¬ (natAbs (q .num) ≡ 0) → ¬ (q ≡ zeroℚ)
+not-zero q h e = h (ap natAbs (ap (λ (r : ℚ). r .num) e ∙ zero-numerator))
+
+inverted : (n : ℤ) (d : ℕ) (h : 0 < d) (e : gcd (natAbs n) d ≡ 1) → ¬ (natAbs n ≡ 0) → mulℚ (record { num = n; den = d; positive = h; lowest = e }) (ratio (pos d) n) ≡ oneℚ
+unfolding ratio integers
+inverted (pos zero) d h e k = absurd (k refl)
+inverted (pos (suc n)) d h e k =
+    same (mul-value (own _) (reduced (pos d) (suc n) _)) one-value (solve₂ integers (λ n d. (n :* d) :* :1 := :1 :* (d :* n)) tt (pos (suc n)) (pos d))
+inverted (negsuc n) d h e k =
+    same (mul-value (own _) (reduced (negℤ (pos d)) (suc n) _)) one-value (solve₂ integers (λ n d. ((:-_ n) :* (:-_ d)) :* :1 := :1 :* (d :* n)) tt (pos (suc n)) (pos d))
+
+pub mul-invert : (q : ℚ) → ¬ (q ≡ zeroℚ) → mulℚ q (invert q) ≡ oneℚ
+unfolding invert
+mul-invert q h = inverted (q .num) (q .den) (q .positive) (q .lowest) (num-not-zero q h)
+
+pub inv-invert : (q : ℚ) → ¬ (q ≡ zeroℚ) → rationals .inv q ≡ some (invert q)
+unfolding rationals
+inv-invert q h = inv-is rationals q (invert q) (mul-invert q h)
+
+pub invert-zero : invert zeroℚ ≡ zeroℚ
+unfolding invert zeroℚ ratio
+invert-zero = refl
+
+-- the inverse of a ratio is the ratio turned over
+pub invert-ratio : (n : ℤ) (d : ℕ) → 0 < d → gcd (natAbs n) d ≡ 1 → invert (ratio n (pos d)) ≡ ratio (pos d) n
+unfolding invert
+invert-ratio n d h e = ap₂ (λ s t. ratio (pos s) t) (ratio-den n d h e) (ratio-num n d h e)

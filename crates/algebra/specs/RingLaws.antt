@@ -1,3 +1,4 @@
+-- Laws that hold in every ring.
 use mathlib.Core.Path.{_≡_, refl, sym, _∙_, ap, ap₂}
 use mathlib.Core.Option.{Option, some, none}
 use Prim.Native.Nat.{ℕ, zero, suc, _+_ as _+ℕ_, _*_ as _*ℕ_}
@@ -5,7 +6,7 @@ use native.Mathlib.Nat as N
 use Rattle.algebra.specs.Ring.{Ring}
 
 module _ {C : Type 0} (R : Ring C) where
-  open Ring R using (𝟘, 𝟙, add as _+_, mul as _*_, neg, add-assoc, add-comm, add-zero, add-neg, mul-assoc, mul-comm, mul-one, distrib, inv, inv-some, inv-none)
+  open Ring R using (𝟘, 𝟙, add as _+_, mul as _*_, neg, add-assoc, add-comm, add-zero, add-neg, mul-assoc, mul-comm, mul-one, distrib, one≢zero, inv, inv-some, inv-none)
 
   infixl 60 _+_
   infixl 70 _*_
@@ -53,6 +54,7 @@ module _ {C : Type 0} (R : Ring C) where
   pub neg-zero : neg 𝟘 ≡ 𝟘
   neg-zero = neg-unique 𝟘 𝟘 (add-zero 𝟘)
 
+  -- a rule set takes declared lemmas and no fields, so these laws of the record are declared once more
   pub +-assoc : (a b c : C) → a + b + c ≡ a + (b + c)
   +-assoc = add-assoc
 
@@ -74,7 +76,9 @@ module _ {C : Type 0} (R : Ring C) where
   neg-dist a b = neg-unique (a + b) (neg a + neg b) (
       add-assoc a b (neg a + neg b) ∙ ap (λ x. a + x) (add-left-comm b (neg a) (neg b) ∙ ap (λ x. neg a + x) (add-neg b) ∙ add-zero (neg a)) ∙ add-neg a)
 
-  -- the image of a natural number
+  -- ---- the image of a natural number
+
+  -- it is shut, so that a numeral stays one atom
   unfoldable pub nat : ℕ → C
   nat zero = 𝟘
   nat (suc n) = 𝟙 + nat n
@@ -100,14 +104,53 @@ module _ {C : Type 0} (R : Ring C) where
   nat-mul (suc m) n = ap nat (N.suc-mul m n) ∙ nat-add (m *ℕ n) n ∙ ap (λ x. x + nat n) (nat-mul m n)
       ∙ simp (nat-suc, add-mul, one-mul, add-comm)
 
-  -- an element has one inverse at most
+  -- ---- equations
+
+  -- with p = q, an equation l = r holds if l + k q = r + k p does
+  pub by-equation : (l r k p q : C) → p ≡ q → l + k * q ≡ r + k * p → l ≡ r
+  by-equation l r k p q h e =
+      cancel (k * q) l r (add-comm (k * q) l ∙ e ∙ ap (λ t. r + k * t) h ∙ add-comm r (k * q))
+
+  pub sub-zero : (a b : C) → a + neg b ≡ 𝟘 → a ≡ b
+  sub-zero a b e = sym (neg-neg a) ∙ ap neg (neg-unique a (neg b) e) ∙ neg-neg b
+
+  -- ---- inverses
+
   pub inv-unique : (a b c : C) → a * b ≡ 𝟙 → a * c ≡ 𝟙 → b ≡ c
   inv-unique a b c p q =
-      sym (mul-one b) ∙ ap (λ x. b * x) (sym q) ∙ sym (mul-assoc b a c) ∙ ap (λ x. x * c) (mul-comm b a ∙ p) ∙ one-mul c
+      sym (mul-one b) ∙ ap (λ t. b * t) (sym q) ∙ sym (mul-assoc b a c) ∙ ap (λ t. t * c) (mul-comm b a ∙ p) ∙ one-mul c
 
   pub inv-is : (a b : C) → a * b ≡ 𝟙 → inv a ≡ some b
-  inv-is a b e = go (inv a) refl
+  inv-is a b h = go (inv a) refl
     where
       go : (o : Option C) → inv a ≡ o → inv a ≡ some b
-      go none p = absurd (inv-none a p b e)
-      go (some c) p = p ∙ ap some (inv-unique a c b (inv-some a c p) e)
+      go (some c) e = e ∙ ap some (inv-unique a c b (inv-some a c e) h)
+      go none e = absurd (inv-none a e b h)
+
+  pub inv-absent : (a : C) → ((b : C) → ¬ (a * b ≡ 𝟙)) → inv a ≡ none
+  inv-absent a h = go (inv a) refl
+    where
+      go : (o : Option C) → inv a ≡ o → inv a ≡ none
+      go (some c) e = absurd (h c (inv-some a c e))
+      go none e = e
+
+  pub inv-one : inv 𝟙 ≡ some 𝟙
+  inv-one = inv-is 𝟙 𝟙 (mul-one 𝟙)
+
+  pub inv-zero : inv 𝟘 ≡ none
+  inv-zero = inv-absent 𝟘 (λ b e. one≢zero (sym e ∙ zero-mul b))
+
+  pub inv-inv : (a b : C) → inv a ≡ some b → inv b ≡ some a
+  inv-inv a b e = inv-is b a (mul-comm b a ∙ inv-some a b e)
+
+  pub inv-mul : (a b c d : C) → inv a ≡ some b → inv c ≡ some d → inv (a * c) ≡ some (b * d)
+  inv-mul a b c d p q =
+      inv-is (a * c) (b * d)
+      (mul-assoc a c (b * d) ∙ ap (λ t. a * t) (mul-left-comm c b d) ∙ sym (mul-assoc a b (c * d))
+      ∙ ap₂ _*_ (inv-some a b p) (inv-some c d q) ∙ mul-one 𝟙)
+
+  -- what has an inverse can be cancelled
+  pub mul-cancel : (u a b c : C) → a * u ≡ 𝟙 → a * b ≡ a * c → b ≡ c
+  mul-cancel u a b c h e =
+      let f : (t : C) → u * (a * t) ≡ t = λ t. sym (mul-assoc u a t) ∙ ap (λ s. s * t) (mul-comm u a ∙ h) ∙ one-mul t in
+      sym (f b) ∙ ap (λ t. u * t) e ∙ f c

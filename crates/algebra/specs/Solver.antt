@@ -1,34 +1,11 @@
 -- A solver for equations between polynomial expressions over any commutative ring.
-use mathlib.Core.Path.{_≡_, refl, sym, _∙_, ap, ap₂, subst}
+use mathlib.Core.Path.{_≡_, refl, sym, _∙_, ap, ap₂}
 use mathlib.Core.Bool.{Bool, true, false, _&&_}
 use mathlib.Core.List.{List, [], _∷_}
 use Prim.Native.Nat.{ℕ, zero, suc, _+_ as _+ℕ_, _*_ as _*ℕ_}
 use lib.Dec.{T, eqb, eqb→eq}
 use Rattle.algebra.specs.Ring.{Ring}
-use Rattle.algebra.specs.RingLaws.{
-  acs,
-  nat,
-  nat-zero,
-  nat-one,
-  nat-add,
-  nat-mul,
-  zero-add,
-  one-mul,
-  zero-mul,
-  mul-zero,
-  neg-mul,
-  mul-neg,
-  neg-neg,
-  neg-dist,
-  neg-zero,
-  add-mul,
-  mul-add,
-  +-assoc,
-  +-comm,
-  add-left-comm,
-  cancel,
-  neg-add,
-}
+use Rattle.algebra.specs.RingLaws.{acs, nat, nat-zero, nat-one, nat-add, nat-mul, zero-add, zero-mul, mul-zero, mul-neg, neg-neg, neg-dist, neg-zero, neg-add}
 
 infix 20 _:=_
 infixl 60 _:+_

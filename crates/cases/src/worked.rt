@@ -26,7 +26,10 @@ const ANSWERED: [(&str, &str); 5] = [
         "d knum kden\n2 0 1\na b c num den\n2 0 0 1 1\n",
         "a b c num den\n4 0 0 7 96\n2 2 0 1 16\n0 4 0 -1 96\n",
     ),
-    ("d knum kden\n2 0 7\na b c num den\n10 0 0 0 1\n", "a b c num den\n"),
+    (
+        "d knum kden\n2 0 7\na b c num den\n10 0 0 0 1\n",
+        "a b c num den\n",
+    ),
     ("d knum kden\n3 4 6\na b c num den\n", "a b c num den\n"),
     (
         "d knum kden\n2 1 1\na b c num den\n0 0 0 2147483646 1\n0 0 0 1 1\n",
@@ -38,15 +41,36 @@ const ANSWERED: [(&str, &str); 5] = [
 const REFUSED: [(&str, &str); 24] = [
     ("d knum kden\n4 0 0\na b c num den\n", "1 0 0"),
     ("d knum kden\n2 0 0\na b c num den\n", "6 0 0"),
-    ("d knum kden\n3 1 1\na b c num den\n0 0 0 4294967296 1\n0 0 0 1 0\n", "6 0 1"),
+    (
+        "d knum kden\n3 1 1\na b c num den\n0 0 0 4294967296 1\n0 0 0 1 0\n",
+        "6 0 1",
+    ),
     ("d knum kden\n2 0 1\na b c num den\n0 0 1 0 5\n", "10 0 0"),
-    ("d knum kden\n3 1 1\na b c num den\n0 0 0 1 1\n13 0 0 4294967296 1\n", "10 0 1"),
-    ("d knum kden\n2 1 1\na b c num den\n9223372036854775807 0 0 1 1\n", "10 0 0"),
+    (
+        "d knum kden\n3 1 1\na b c num den\n0 0 0 1 1\n13 0 0 4294967296 1\n",
+        "10 0 1",
+    ),
+    (
+        "d knum kden\n2 1 1\na b c num den\n9223372036854775807 0 0 1 1\n",
+        "10 0 0",
+    ),
     ("d knum kden\n2 0 1\na b c num den\n11 0 0 1 1\n", "11 0 11"),
-    ("d knum kden\n2 1 1\na b c num den\n0 0 0 2147483647 1\n0 0 0 1 1\n", "12 0 0"),
-    ("d knum kden\n2 -9223372036854775808 1\na b c num den\n", "12 0 0"),
-    ("d knum kden\n2 3 1\na b c num den\n2 2 0 1800000000 1\n", "12 1 4"),
-    ("d knum kden\n2 0 5\na b c num den\n2 6 0 844747580 9\n", "12 0 61"),
+    (
+        "d knum kden\n2 1 1\na b c num den\n0 0 0 2147483647 1\n0 0 0 1 1\n",
+        "12 0 0",
+    ),
+    (
+        "d knum kden\n2 -9223372036854775808 1\na b c num den\n",
+        "12 0 0",
+    ),
+    (
+        "d knum kden\n2 3 1\na b c num den\n2 2 0 1800000000 1\n",
+        "12 1 4",
+    ),
+    (
+        "d knum kden\n2 0 5\na b c num den\n2 6 0 844747580 9\n",
+        "12 0 61",
+    ),
     ("", "14 0 0"),
     ("d", "14 0 1"),
     ("d knum kdem\n", "14 0 10"),
@@ -85,7 +109,17 @@ fn repeated(heap: Global, line: &[u8], times: usize) -> Result<Vec<u8>, Fail> {
 fn unit(dimension: u64) -> Laplacian<Pair> {
     let zero = Fractions.whole(0);
     let one = Fractions.whole(1);
-    Laplacian { dimension, matrix: Symmetric { xx: one, xy: zero, xz: zero, yy: one, yz: zero, zz: one } }
+    Laplacian {
+        dimension,
+        matrix: Symmetric {
+            xx: one,
+            xy: zero,
+            xz: zero,
+            yy: one,
+            yz: zero,
+            zz: one,
+        },
+    }
 }
 
 #[cfg(test)]
@@ -120,17 +154,34 @@ mod tests {
     // A misfit before the limit on bytes comes first; else the first byte too many is told.
     #[test]
     fn bytes_are_limited(rt: LibcRuntime) -> Result<(), Fail> {
-        let wrong = repeated(rt.alloc(), b"0 0 0 1234567890123456789 1000000000000000000000000\n", 1300)?;
+        let wrong = repeated(
+            rt.alloc(),
+            b"0 0 0 1234567890123456789 1000000000000000000000000\n",
+            1300,
+        )?;
         check(refuses(rt.alloc(), wrong.as_slice(), "14 0 77")?)?;
-        let long = repeated(rt.alloc(), b"1234567890123456789 0 1234567890123456789 -1234567890123456789 1234567890123456789\n", 800)?;
+        let long = repeated(
+            rt.alloc(),
+            b"1234567890123456789 0 1234567890123456789 -1234567890123456789 1234567890123456789\n",
+            800,
+        )?;
         check(refuses(rt.alloc(), long.as_slice(), "14 0 65536")?)
     }
 
     #[test]
     fn place_of_a_monomial() -> Result<(), Fail> {
-        check_eq(Monomial { a: 2, b: 3, c: 1 }.place(Dimension::Space), Some(67))?;
-        check_eq(Monomial { a: 0, b: 0, c: 12 }.place(Dimension::Space), Some(454))?;
-        check_eq(Monomial { a: 0, b: 12, c: 0 }.place(Dimension::Plane), Some(90))?;
+        check_eq(
+            Monomial { a: 2, b: 3, c: 1 }.place(Dimension::Space),
+            Some(67),
+        )?;
+        check_eq(
+            Monomial { a: 0, b: 0, c: 12 }.place(Dimension::Space),
+            Some(454),
+        )?;
+        check_eq(
+            Monomial { a: 0, b: 12, c: 0 }.place(Dimension::Plane),
+            Some(90),
+        )?;
         check_eq(Monomial { a: 12, b: 1, c: 0 }.place(Dimension::Space), None)?;
         check_eq(Monomial { a: 0, b: 0, c: 1 }.place(Dimension::Plane), None)
     }

@@ -38,20 +38,46 @@ pub const WORKING_TABLES: usize = 10;
 fn laplacian(dimension: u64) -> Laplacian<Pair> {
     let zero = Fractions.whole(0);
     let one = Fractions.whole(1);
-    Laplacian { dimension, matrix: Symmetric { xx: one, xy: zero, xz: zero, yy: one, yz: zero, zz: one } }
+    Laplacian {
+        dimension,
+        matrix: Symmetric {
+            xx: one,
+            xy: zero,
+            xz: zero,
+            yy: one,
+            yz: zero,
+            zz: one,
+        },
+    }
 }
 
 // Solves the equation of a cell: the Laplacian, plus a constant unless that is zero, applied to the target is the source.
-fn solved(dimension: u64, constant: Pair, source: &mut [Pair], target: &mut [Pair], work: &mut [Pair]) -> Result<u32, Fault> {
+fn solved(
+    dimension: u64,
+    constant: Pair,
+    source: &mut [Pair],
+    target: &mut [Pair],
+    work: &mut [Pair],
+) -> Result<u32, Fault> {
     if Fractions.is_zero(constant) {
         return laplacian(dimension).solve(&Fractions, source, target, work);
     }
-    let pile = Remainder { base: Constant { dimension, value: constant }, rest: laplacian(dimension) };
+    let pile = Remainder {
+        base: Constant {
+            dimension,
+            value: constant,
+        },
+        rest: laplacian(dimension),
+    };
     pile.solve(&Fractions, source, target, work)
 }
 
 // The questions on a cell's numbers that come before its values are formed, and its terms.
-fn prepared(cell: &Cell, rows: &[Row], terms: &mut [Term<Pair>]) -> Result<(Dimension, Pair), Fault> {
+fn prepared(
+    cell: &Cell,
+    rows: &[Row],
+    terms: &mut [Term<Pair>],
+) -> Result<(Dimension, Pair), Fault> {
     let Some(dimension) = Dimension::of(cell.d) else {
         return Err(Fault::no(Question::Dimension, 0));
     };
@@ -67,7 +93,14 @@ fn prepared(cell: &Cell, rows: &[Row], terms: &mut [Term<Pair>]) -> Result<(Dime
 }
 
 // The solution of a cell, into the target; the source is made in its own table.
-pub(crate) fn solve_cell(cell: &Cell, rows: &[Row], terms: &mut [Term<Pair>], source: &mut [Pair], target: &mut [Pair], work: &mut [Pair]) -> Result<Dimension, Fault> {
+pub(crate) fn solve_cell(
+    cell: &Cell,
+    rows: &[Row],
+    terms: &mut [Term<Pair>],
+    source: &mut [Pair],
+    target: &mut [Pair],
+    work: &mut [Pair],
+) -> Result<Dimension, Fault> {
     let (dimension, constant) = prepared(cell, rows, terms)?;
     add_terms(&Fractions, dimension, terms, source)?;
     solved(cell.d, constant, source, target, work)?;

@@ -12,7 +12,11 @@ fn exponent(n: u64) -> u8 {
 }
 
 fn monomial(row: &Row) -> Monomial {
-    Monomial { a: exponent(row.a), b: exponent(row.b), c: exponent(row.c) }
+    Monomial {
+        a: exponent(row.a),
+        b: exponent(row.b),
+        c: exponent(row.c),
+    }
 }
 
 // Whether each row has a denominator other than zero.
@@ -29,7 +33,10 @@ pub(crate) fn ask_denominators(rows: &[Row]) -> Result<(), Fault> {
 pub(crate) fn place_terms(rows: &[Row], terms: &mut [Term<Pair>]) {
     let end = rows.len().min(terms.len());
     for i in 0..end {
-        terms[i] = Term { monomial: monomial(&rows[i]), value: Pair { num: 0, den: 1 } };
+        terms[i] = Term {
+            monomial: monomial(&rows[i]),
+            value: Pair { num: 0, den: 1 },
+        };
     }
 }
 
@@ -38,7 +45,10 @@ pub(crate) fn make_values(rows: &[Row], terms: &mut [Term<Pair>]) -> Result<(), 
     let end = rows.len().min(terms.len());
     for i in 0..end {
         let value = Fraction::new(rows[i].num, rows[i].den)?;
-        terms[i] = Term { monomial: terms[i].monomial, value: value.pair() };
+        terms[i] = Term {
+            monomial: terms[i].monomial,
+            value: value.pair(),
+        };
     }
     Ok(())
 }

@@ -4,15 +4,12 @@ use mathlib.Core.List.{List, [], _∷_, _++_}
 use Prim.Native.Nat.{ℕ, _+_, _-_, _<_, _≤_}
 use native.Mathlib.Omega.{arith}
 use lib.ListN.{length, getD, take, drop}
-use Rattle.std.proofs.shelf.Edits.{between-none, between-more}
+use Rattle.std.proofs.shelf.Edits.{between-more}
 use Rattle.std.proofs.shelf.Lists.{take-more, take-all, drop-more, getD-append-left, getD-at}
 use Rattle.files.specs.declared.token.Token.{Token}
 use Rattle.files.specs.Tokens.{word-of}
 use Rattle.files.specs.Names.{Begun, Names, Misnames}
 use Rattle.files.proofs.Tools.{cut}
-
-pub begun-none : (text : List ℕ) (from : ℕ) (want : List ℕ) → from ≤ length text → Begun text from want from 0
-begun-none text from want h = record { place = omega arith; within = h; short = omega arith; reads = between-none text from }
 
 pub begun-more : (text : List ℕ) (from : ℕ) (want : List ℕ) (to i : ℕ) → Begun text from want to i → (to ≡ length text → ⊥) → i < length want → getD text to 0 ≡ getD want i 0 → Begun text from want (to + 1) (i + 1)
 begun-more text from want to i b n l e =

@@ -6,4 +6,3 @@ pub mod Begins
 pub mod Stand
 pub mod Rows
 pub mod Limits
-pub mod Puts

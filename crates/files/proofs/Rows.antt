@@ -1,6 +1,6 @@
 -- The step of the loop over the lines of values.
-use mathlib.Core.Path.{_≡_, refl, sym, ap, _∙_, subst}
-use mathlib.Core.List.{List, [], _∷_, _++_, append-assoc}
+use mathlib.Core.Path.{_≡_, sym, ap, _∙_, subst}
+use mathlib.Core.List.{List, [], _∷_, _++_}
 use Prim.Native.Nat.{ℕ, _+_, _<_, _≤_}
 use native.Mathlib.Omega.{arith}
 use lib.ListN.{length, set, take, drop}
@@ -25,14 +25,6 @@ pub line-forward : {text : List ℕ} {at to : ℕ} (r : Row) → Stands text at 
 line-forward r s =
     let l = length-append (decimal (r .a)) (32 ∷ from-b r) in
     omega (arith, s .place)
-
-pub through-none : (text : List ℕ) (at : ℕ) (rows : List Row) → at ≤ length text → Through text at rows text at rows 0
-through-none text at rows h =
-    record {
-      passed = record { kept = refl; line = record { place = omega arith; within = h; rest = refl } };
-      long = refl;
-      filled = record { room = omega arith; fit = tt; rest = refl };
-    }
 
 module _ {t₀ : List ℕ} {a₀ : ℕ} {before : List Row} {text : List ℕ} {at : ℕ} {after : List Row} {n : ℕ} (p : Through t₀ a₀ before text at after n) where
   pub through-more : {text′ : List ℕ} {to : ℕ} (r : Row) → (n ≡ length after → ⊥) → text′ ≡ text → Lined text at to (Ok r) → Through t₀ a₀ before text′ to (set after n r) (n + 1)

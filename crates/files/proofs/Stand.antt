@@ -5,7 +5,7 @@ use mathlib.Core.List.{List, [], _∷_, _++_, append-assoc}
 use Prim.Native.Nat.{ℕ, _+_, _-_, _^_, _<_, _≤_}
 use native.Mathlib.Omega.{arith}
 use lib.IntN.{ℤ, pos, natAbs}
-use lib.ListN.{length, getD, take, drop}
+use lib.ListN.{length, take, drop}
 use Rattle.std.proofs.shelf.Lists.{drop-more, length-append, length-drop}
 use Rattle.std.specs.Written.{decimal, signed}
 use Rattle.files.specs.declared.row.Row.{Row}
@@ -14,7 +14,7 @@ use Rattle.files.specs.declared.token.Token.the-variants as T
 use Rattle.files.specs.Form.{line}
 use Rattle.files.specs.Lines.{Stands}
 use Rattle.files.specs.Names.{Names}
-use Rattle.files.specs.Tokens.{word-of, value-of, size-of, Took}
+use Rattle.files.specs.Tokens.{value-of, size-of, Took}
 use Rattle.files.specs.Words.{IsNatural}
 use Rattle.files.proofs.Tools.{cut}
 

@@ -4,4 +4,3 @@ pub mod Names
 pub mod Form
 pub mod Lines
 pub mod Reads
-pub mod Writes

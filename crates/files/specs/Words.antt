@@ -1,6 +1,6 @@
 -- A number's word, byte by byte.
 use mathlib.Core.Path.{_≡_}
-use mathlib.Core.Bool.{Bool, true, false, cond, not, _&&_}
+use mathlib.Core.Bool.{Bool, true, cond, not, _&&_}
 use mathlib.Core.List.{List, [], _∷_}
 use Prim.Native.Nat.{ℕ, pred, _+_, _-_, _*_, _^_, _<_, _≤_}
 use lib.Dec.{eqb, leb, ltb}

@@ -5,6 +5,4 @@ pub mod read;
 pub mod reader;
 pub mod row;
 mod scan;
-pub mod table;
 pub mod token;
-pub mod write;

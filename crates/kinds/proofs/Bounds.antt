@@ -1,25 +1,27 @@
 -- Bounds and values of what the operations compute.
 use mathlib.Core.Path.{_≡_, refl, sym, _∙_, ap, ap₂, subst, subst₂}
-use mathlib.Core.Bool.{Bool, true, false}
+use mathlib.Core.Bool.{Bool}
 use Prim.Native.Nat.{ℕ, suc, _*_, _-_, _^_, _≤_, _<_}
 use native.Mathlib.Nat.{mul-le-mul, mul-pos}
 use native.Mathlib.Omega.{arith}
 use mir.Syntax.{w64}
 use mir.Val.{SFits, toZ, ofZ}
 use lib.Dec.{eqb}
-use lib.IntN.{ℤ, pos, negsuc, negℤ, natAbs, _+ℤ_, _-ℤ_, _*ℤ_, +ℤ-idl}
+use lib.IntN.{ℤ, pos, negsuc, negℤ, natAbs, _+ℤ_, _*ℤ_}
 use Rattle.std.specs.declared.result.Result.{Result}
 use Rattle.std.specs.declared.result.Result.the-variants.{Err}
 use Rattle.std.specs.Orderings.{When}
-use Rattle.std.proofs.shelf.Tests.{ne-eqb, eq-eqb}
+use Rattle.std.proofs.shelf.Tests.{ne-eqb}
 use Rattle.std.proofs.shelf.Signed.{ints, toZ-ofZ}
 use Rattle.kinds.specs.declared.fault.Fault.{Fault}
-use Rattle.algebra.specs.Gcd.{gcd, gcd-one}
-use Rattle.algebra.specs.Rationals.{addℚ, mulℚ, negℚ, abs-neg, abs-mul, same, add-value, mul-value, neg-value}
-use Rattle.kinds.specs.Bounded.{limit, ratio, invert, is-zero, no-fraction, no-inverse}
+use Rattle.algebra.specs.Gcd.{gcd-one}
+use Rattle.algebra.specs.Integers.{abs-mul}
+use Rattle.algebra.specs.Rationals.{addℚ, mulℚ, negℚ, ratio, ratio-add, ratio-mul, ratio-neg}
+use Rattle.kinds.specs.Bounded.{limit, is-zero, no-fraction}
 use Rattle.kinds.specs.declared.fraction.Fraction.{Fraction}
-use Rattle.kinds.specs.Fractions.{Answer, New, Inverted, value, sound-of}
-use Rattle.kinds.specs.Sound.{Sound, sound-num, sound-den, ratio-value}
+use Rattle.kinds.specs.Fractions.{Answer, New, value}
+use Rattle.kinds.specs.Sound.{Sound, sound-num}
+use Rattle.kinds.proofs.Held.{sound-of}
 
 -- the square of the limit
 abbrev pub square : ℕ
@@ -37,9 +39,6 @@ abs-product a b h k = rw (abs-mul a b) (mul-le-mul h k)
 pub abs-sum : (a b : ℤ) → natAbs a ≤ square → natAbs b ≤ square → natAbs (a +ℤ b) ≤ 2 * square
 abs-sum a b h k = omega (arith, ints)
 
-pub minus-is : (z : ℤ) → pos 0 -ℤ z ≡ negℤ z
-minus-is z = +ℤ-idl (negℤ z)
-
 pub zero-test : (z : ℤ) → SFits w64 z → eqb (ofZ w64 z) 0 ≡ eqb (natAbs z) 0
 zero-test (pos n) f = refl
 zero-test (negsuc n) f = ne-eqb (2 ^ 64 - suc n) 0 (λ e. let k = f .sfits in omega arith) ∙ sym (ne-eqb (suc n) 0 (λ e. omega arith))
@@ -52,37 +51,23 @@ told n d r h p = subst (λ t. When t (r ≡ Err no-fraction) (Answer (ratio n d)
 pub sum-ratio : (a c b d : ℤ) → Sound a b → Sound c d → ratio (a *ℤ d +ℤ c *ℤ b) (b *ℤ d) ≡ addℚ (ratio a b) (ratio c d)
 sum-ratio a c b d s t =
     subst₂ (λ x y. ratio (a *ℤ y +ℤ c *ℤ x) (x *ℤ y) ≡ addℚ (ratio a x) (ratio c y)) (sym (s .whole)) (sym (t .whole))
-    (same (ratio-value _ (natAbs b * natAbs d) (mul-pos (s .some) (t .some))) (add-value (ratio-value a (natAbs b) (s .some)) (ratio-value c (natAbs d) (t .some))) refl)
+    (sym (ratio-add a c (natAbs b) (natAbs d) (s .some) (t .some)))
 
 pub product-ratio : (a c b d : ℤ) → Sound a b → Sound c d → ratio (a *ℤ c) (b *ℤ d) ≡ mulℚ (ratio a b) (ratio c d)
 product-ratio a c b d s t =
     subst₂ (λ x y. ratio (a *ℤ c) (x *ℤ y) ≡ mulℚ (ratio a x) (ratio c y)) (sym (s .whole)) (sym (t .whole))
-    (same (ratio-value _ (natAbs b * natAbs d) (mul-pos (s .some) (t .some))) (mul-value (ratio-value a (natAbs b) (s .some)) (ratio-value c (natAbs d) (t .some))) refl)
+    (sym (ratio-mul a c (natAbs b) (natAbs d) (s .some) (t .some)))
 
 pub minus-ratio : (a b : ℤ) → Sound a b → ratio (negℤ a) b ≡ negℚ (ratio a b)
 minus-ratio a b s =
     subst (λ x. ratio (negℤ a) x ≡ negℚ (ratio a x)) (sym (s .whole))
-    (same (ratio-value (negℤ a) (natAbs b) (s .some)) (neg-value (ratio-value a (natAbs b) (s .some))) refl)
-
-pub minus-sound : (a b : ℤ) → Sound a b → Sound (negℤ a) b
-minus-sound a b s =
-    record {
-      whole = s .whole;
-      some = s .some;
-      small-den = s .small-den;
-      small-num = subst (λ t. t ≤ limit) (sym (abs-neg a)) (s .small-num);
-      coprime = ap (λ t. gcd t (natAbs b)) (abs-neg a) ∙ s .coprime;
-    }
+    (sym (ratio-neg a (natAbs b) (s .some)))
 
 pub product-some : (b d : ℤ) → 0 < natAbs b → 0 < natAbs d → 0 < natAbs (b *ℤ d)
 product-some b d h k = rw (abs-mul b d) (mul-pos h k)
 
 pub whole-sound : (n : ℕ) → n < 256 → Sound (pos n) (pos 1)
 whole-sound n h = record { whole = refl; some = omega arith; small-den = omega arith; small-num = omega arith; coprime = gcd-one n }
-
-pub inverse-ratio : (a b : ℤ) → Sound a b → ratio b a ≡ invert (ratio a b)
-unfolding invert
-inverse-ratio a b s = ap₂ ratio (sym (sound-den a b s)) (sym (sound-num a b s))
 
 -- ---- the same, of numbers that went to bits and back on the way
 
@@ -140,19 +125,3 @@ product-told f g r a =
     subst (λ q. Answer q r) (product-ratio (f .num) (g .num) (f .den) (g .den) s t)
     (told _ _ r (product-some (f .den) (g .den) (s .some) (t .some))
     (subst₂ (λ n d. New n d r) (back-product (f .num) (g .num) (f .small) (g .small)) (back-product (f .den) (g .den) (f .low) (g .low)) a))
-
-pub inverse-told : (f : Fraction) (r : Result Fraction Fault) → 0 < natAbs (f .num) → New (bits-of (f .den)) (bits-of (f .num)) r → Inverted (value f) r
-unfolding value
-inverse-told f r h a =
-    let s = sound-of f in
-    let k = f .small in
-    let l = f .low in
-    subst (λ t. When t (r ≡ Err no-inverse) (Answer (invert (value f)) r)) (sym (zero-tested (f .num) (f .den) false s (ne-eqb (natAbs (f .num)) 0 (λ e. omega arith))))
-    (subst (λ q. Answer q r) (inverse-ratio (f .num) (f .den) s)
-    (told (f .den) (f .num) r h (subst₂ (λ n d. New n d r) (back (f .den) (omega arith)) (back (f .num) (omega arith)) a)))
-
-pub inverse-refused : (f : Fraction) → natAbs (f .num) ≡ 0 → Inverted (value f) (Err no-inverse)
-unfolding value
-inverse-refused f e =
-    subst (λ t. When t (_≡_ {A = Result Fraction Fault} (Err no-inverse) (Err no-inverse)) (Answer (invert (value f)) (Err no-inverse)))
-    (sym (zero-tested (f .num) (f .den) true (sound-of f) (eq-eqb (natAbs (f .num)) 0 e))) refl

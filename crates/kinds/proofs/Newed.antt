@@ -1,6 +1,6 @@
 -- What `Fraction::new` computes is the ratio in lowest terms.
 use mathlib.Core.Path.{_≡_, refl, sym, _∙_, ap, ap₂, subst, subst₂}
-use mathlib.Core.Bool.{Bool, true, false}
+use mathlib.Core.Bool.{false}
 use mathlib.Core.Logic.{_⊎_, inl, inr}
 use Prim.Native.Nat.{ℕ, _/_, _≤_, _<_}
 use native.Mathlib.Omega.{arith}
@@ -11,15 +11,11 @@ use Rattle.std.specs.Orderings.{When}
 use Rattle.std.proofs.shelf.Tests.{lt-ltb, le-ltb, ne-eqb, or-from, or-left, or-right}
 use Rattle.kinds.specs.declared.fault.Fault.{Fault}
 use Rattle.algebra.specs.Gcd.{gcd, gcd-pos}
-use Rattle.algebra.specs.Rationals.{abs-neg}
-use Rattle.kinds.specs.Bounded.{limit, apart, signed, ratio, outside, too-large, no-fraction}
+use Rattle.algebra.specs.Rationals.{ratio, ratio-own, ratio-num-is, ratio-den-is, opposite, signed, abs-signed}
+use Rattle.kinds.specs.Bounded.{limit, outside, too-large, no-fraction}
 use Rattle.kinds.specs.declared.fraction.Fraction.{Fraction}
 use Rattle.kinds.specs.Fractions.{value, Answer, New}
-use Rattle.kinds.specs.Sound.{parts-num, parts-den, put-held, ratio-put, Sound}
-
-abs-signed : (s : Bool) (m : ℕ) → natAbs (signed s m) ≡ m
-abs-signed true m = abs-neg (pos m)
-abs-signed false m = refl
+use Rattle.kinds.specs.Sound.{put-held, Sound}
 
 -- a, b and g are what the code has for |n|, |d| and their greatest common divisor
 module _ (n d : ℤ) (a b g : ℕ) (ea : a ≡ natAbs n) (eb : b ≡ natAbs d) (eg : g ≡ gcd a b) (h : 0 < b) where
@@ -32,14 +28,14 @@ module _ (n d : ℤ) (a b g : ℕ) (ea : a ≡ natAbs n) (eb : b ≡ natAbs d) (
   divisor : gcd (natAbs n) (natAbs d) ≡ g
   divisor = ap₂ gcd (sym ea) (sym eb) ∙ sym eg
 
-  num-is : signed (apart n d) (a / g) ≡ ratio n d .num
-  num-is = sym (parts-num n d some ∙ ap (signed (apart n d)) (ap₂ _/_ (sym ea) divisor))
+  num-is : signed (opposite n d) (a / g) ≡ ratio n d .num
+  num-is = sym (ratio-num-is n d some ∙ ap (signed (opposite n d)) (ap₂ _/_ (sym ea) divisor))
 
   den-is : b / g ≡ ratio n d .den
-  den-is = sym (parts-den n d some ∙ ap₂ _/_ (sym eb) divisor)
+  den-is = sym (ratio-den-is n d some ∙ ap₂ _/_ (sym eb) divisor)
 
   abs-is : a / g ≡ natAbs (ratio n d .num)
-  abs-is = sym (abs-signed (apart n d) (a / g)) ∙ ap natAbs num-is
+  abs-is = sym (abs-signed (opposite n d) (a / g)) ∙ ap natAbs num-is
 
   answered : (r : Result Fraction Fault) → Answer (ratio n d) r → New n d r
   answered r p = subst (λ t. When t (r ≡ Err no-fraction) (Answer (ratio n d) r)) (sym (ne-eqb (natAbs d) 0 (λ e. let k = some in omega arith))) p
@@ -49,7 +45,7 @@ module _ (n d : ℤ) (a b g : ℕ) (ea : a ≡ natAbs n) (eb : b ≡ natAbs d) (
   too-large-told (inl k) = answered (Err too-large) (or-left _ _ (lt-ltb limit _ (subst (λ t. limit < t) abs-is k)), refl)
   too-large-told (inr k) = answered (Err too-large) (or-right _ _ (lt-ltb limit _ (subst (λ t. limit < t) den-is (k .1))), refl)
 
-  module _ (p : a / g ≤ limit) (q : b / g ≤ limit) (x y : ℤ) (ex : x ≡ signed (apart n d) (a / g)) (ey : y ≡ pos (b / g)) where
+  module _ (p : a / g ≤ limit) (q : b / g ≤ limit) (x y : ℤ) (ex : x ≡ signed (opposite n d) (a / g)) (ey : y ≡ pos (b / g)) where
     within : outside (ratio n d) ≡ false
     unfolding outside
     within = or-from _ _ (le-ltb limit _ (subst (λ t. t ≤ limit) abs-is p)) (le-ltb limit _ (subst (λ t. t ≤ limit) den-is q))
@@ -65,4 +61,4 @@ module _ (n d : ℤ) (a b g : ℕ) (ea : a ≡ natAbs n) (eb : b ≡ natAbs d) (
 
     pub made-told : (f : Fraction) → f .num ≡ x → f .den ≡ y → New n d (Ok f)
     unfolding value
-    made-told f p q = answered (Ok f) (within, ap₂ ratio (p ∙ x-is) (q ∙ y-is) ∙ ratio-put (ratio n d))
+    made-told f p q = answered (Ok f) (within, ap₂ ratio (p ∙ x-is) (q ∙ y-is) ∙ ratio-own (ratio n d))

@@ -3,11 +3,11 @@ use mathlib.Core.Bool.{cond}
 use lib.IntN.{pos}
 use Rattle.std.specs.declared.result.Result.{Result}
 use Rattle.std.specs.declared.result.Result.the-variants.{Err}
+use Rattle.algebra.specs.Rationals.{ℚ, zeroℚ, ratio, invert}
 use Rattle.kinds.specs.declared.fault.Fault.{Fault}
 use Rattle.kinds.specs.declared.pairs.Pair.{Pair}
-use Rattle.algebra.specs.Rationals.{ℚ, zeroℚ}
 use Rattle.kinds.specs.Arith.{settled}
-use Rattle.kinds.specs.Bounded.{sound, ratio, outside, is-zero, invert, no-inverse}
+use Rattle.kinds.specs.Bounded.{sound, outside, is-zero, no-inverse}
 
 -- a pair that is no fraction in lowest terms, within the limit, means zero
 unfoldable pub mean : Pair → ℚ

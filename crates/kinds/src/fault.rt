@@ -1,5 +1,5 @@
 ghost use mathlib.Core.Path.{_≡_};
-ghost use Rattle.kinds.specs.Faults.{fault, at-place, deepened, told};
+ghost use Rattle.kinds.specs.Faults.{fault, at-place, deepened, told, with-told};
 
 // The questions that every call asks before it answers, in their order; each is known outside by its number, from 1.
 #[derive(Clone, Copy)]
@@ -94,16 +94,11 @@ impl Fault {
         ensures { λ r. ⌜ r ≡ at-place place self ⌝ }
     {
         let r = self.refusal();
-        let moved = Refusal {
+        self.telling(Refusal {
             number: r.number,
             depth: r.depth,
             place,
-        };
-        match self {
-            Fault::Input(_) => Fault::Input(moved),
-            Fault::Size(_) => Fault::Size(moved),
-            Fault::Inverse(_) => Fault::Inverse(moved),
-        }
+        })
     }
 
     // The same fault as seen from the layer above; the depth stops at the largest number.
@@ -111,15 +106,20 @@ impl Fault {
         ensures { λ r. ⌜ r ≡ deepened self ⌝ }
     {
         let r = self.refusal();
-        let moved = Refusal {
+        self.telling(Refusal {
             number: r.number,
             depth: r.depth.saturating_add(1),
             place: r.place,
-        };
+        })
+    }
+
+    fn telling(self, refusal: Refusal) -> Fault
+        ensures { λ r. ⌜ r ≡ with-told self refusal ⌝ }
+    {
         match self {
-            Fault::Input(_) => Fault::Input(moved),
-            Fault::Size(_) => Fault::Size(moved),
-            Fault::Inverse(_) => Fault::Inverse(moved),
+            Fault::Input(_) => Fault::Input(refusal),
+            Fault::Size(_) => Fault::Size(refusal),
+            Fault::Inverse(_) => Fault::Inverse(refusal),
         }
     }
 }

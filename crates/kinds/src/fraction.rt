@@ -6,6 +6,7 @@ ghost use Rattle.algebra.specs.Gcd.{gcd};
 
 pub mod ops;
 
+// A rational number in lowest terms, whose numerator and denominator have at most 31 bits; the sign is the numerator's.
 #[derive(Clone, Copy)]
 pub struct Fraction {
     num: i64,

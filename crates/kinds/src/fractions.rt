@@ -1,4 +1,4 @@
-ghost use Rattle.kinds.specs.Meanings.{fraction-arith};
+ghost use Rattle.kinds.specs.FractionArith.{fraction-arith};
 use crate::fault::Fault;
 use crate::fraction::Fraction;
 use crate::kind::Kind;

@@ -31,7 +31,12 @@ pub fn ask_monomials<V>(dimension: Dimension, terms: &[Term<V>]) -> Result<(), F
 }
 
 // Adds one term; its fault tells the place in the table that was to be written.
-fn add_term<K: Kind>(k: &K, place: usize, value: K::Value, table: &mut [K::Value]) -> Result<(), Fault>
+fn add_term<K: Kind>(
+    k: &K,
+    place: usize,
+    value: K::Value,
+    table: &mut [K::Value],
+) -> Result<(), Fault>
     requires { ⌜ place < length (now table) ⌝ }
 {
     match k.sum(table[place], value) {
@@ -44,7 +49,12 @@ fn add_term<K: Kind>(k: &K, place: usize, value: K::Value, table: &mut [K::Value
 }
 
 // Adds the terms to a table, in their order.
-pub fn add_terms<K: Kind>(k: &K, dimension: Dimension, terms: &[Term<K::Value>], table: &mut [K::Value]) -> Result<(), Fault>
+pub fn add_terms<K: Kind>(
+    k: &K,
+    dimension: Dimension,
+    terms: &[Term<K::Value>],
+    table: &mut [K::Value],
+) -> Result<(), Fault>
     ensures short { λ r. ⌜ Short (length (now (table .entry))) (size-of dimension) (now (table .entry)) (now (table .exit)) r ⌝ }
 {
     if table.len() < dimension.size() {

@@ -1,8 +1,6 @@
-use borrow.Author.Needs.{needs as needs-x}
 use native.Mathlib.Omega.{arith}
-use mathlib.Core.Path.{_≡_, ap}
+use mathlib.Core.Path.{ap}
 use borrow.Author.Needs.{needs}
-use Prim.Native.Nat.{_<_}
 use lib.ListN.{length}
 use Rattle.files.proofs.Rows.{through-more, through-all, line-forward}
 use Rattle.files.proofs.read.values.Needs as need

@@ -1,6 +1,7 @@
 use mathlib.Core.Path.{sym}
 use native.Mathlib.Omega.{arith}
-use Rattle.kinds.specs.Fractions.{sound-of, value}
+use Rattle.kinds.specs.Fractions.{value}
+use Rattle.kinds.proofs.Held.{sound-of}
 use Rattle.kinds.proofs.Bounds.{fits-within, zero-test, zero-tested}
 use Rattle.kinds.proofs.fraction.Fraction.is_zero.Needs as need
 

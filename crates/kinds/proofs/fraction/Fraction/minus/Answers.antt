@@ -1,8 +1,9 @@
 use mathlib.Core.Path.{_∙_, ap₂}
 use native.Mathlib.Omega.{arith}
 use Rattle.std.proofs.shelf.Signed.{ints}
-use Rattle.kinds.specs.Bounded.{ratio}
-use Rattle.kinds.specs.Fractions.{sound-of, value}
+use Rattle.algebra.specs.Rationals.{ratio}
+use Rattle.kinds.specs.Fractions.{value}
+use Rattle.kinds.proofs.Held.{sound-of}
 use Rattle.kinds.proofs.Bounds.{minus-ratio}
 use Rattle.kinds.proofs.fraction.Fraction.minus.Needs as need
 

@@ -5,10 +5,11 @@ use mir.Syntax.{w64}
 use mir.Val.{toZ, ofZ}
 use lib.IntN.{pos, natAbs}
 use Rattle.std.proofs.shelf.Signed.{ints, toZ-ofZ, toZ-pos}
-use Rattle.kinds.specs.Bounded.{apart, signed}
+use Rattle.algebra.specs.Gcd.{gcd-one}
+use Rattle.algebra.specs.Rationals.{opposite, signed}
 use Rattle.std.specs.declared.result.Result.the-variants.{Err}
 use Rattle.kinds.specs.Fractions.{New}
-use Rattle.kinds.specs.Sound.{parts}
+use Rattle.kinds.proofs.Held.{parts}
 use Rattle.kinds.proofs.Newed.{divisor-pos, too-large-told, sound-made, made-told}
 use Rattle.kinds.proofs.fraction.Fraction.new.Needs as need
 use Rattle.kinds.proofs.fraction.Fraction.new.Needs.{After-common-divisor-g, After-with-sign}
@@ -22,6 +23,9 @@ abs-d c = c .unsigned-abs-d .ensures .value ∙ ap natAbs (toZ-ofZ w64 (c .args 
 some : (c : need.After-common-divisor-g) → 0 < c .unsigned-abs-d .result
 some c = omega (arith, ints)
 
+pub bounded-requires : need.bounded-requires
+bounded-requires c κs = (record { lt = tt }, (omega arith, gcd-one _))
+
 pub div-top : need.div-top
 div-top c = divisor-pos (c .args .num) (c .args .den) _ _ _ (abs-n c) (abs-d c) (c .common-divisor-g .ensures) (some c)
 
@@ -34,11 +38,11 @@ returns-then-top-gt-LIMIT c =
     let t = too-large-told (c .args .num) (c .args .den) _ _ _ (abs-n k) (abs-d k) (c .common-divisor-g .ensures) (some k) (c .then-top-gt-LIMIT .either) in
     subst (λ e. New (c .args .num) (c .args .den) (Err e)) (sym (c .no-then-top-gt-LIMIT .ensures)) t
 
-top-is : (c : need.After-with-sign) → toZ w64 (ofZ w64 (c .with-sign .result)) ≡ signed (apart (c .args .num) (c .args .den)) (c .unsigned-abs-n .result / c .common-divisor-g .result)
+top-is : (c : need.After-with-sign) → toZ w64 (ofZ w64 (c .with-sign .result)) ≡ signed (opposite (c .args .num) (c .args .den)) (c .unsigned-abs-n .result / c .common-divisor-g .result)
 top-is c =
     toZ-ofZ w64 (c .with-sign .result) (record { sfits = c .with-sign .ok }) ∙ c .with-sign .ensures
     ∙ ap (λ t. signed t (c .unsigned-abs-n .result / c .common-divisor-g .result))
-    (c .differ .ensures ∙ ap₂ apart (toZ-ofZ w64 (c .args .num) (c .fits .num)) (toZ-ofZ w64 (c .args .den) (c .fits .den)))
+    (c .differ .ensures ∙ ap₂ opposite (toZ-ofZ w64 (c .args .num) (c .fits .num)) (toZ-ofZ w64 (c .args .den) (c .fits .den)))
 
 bottom-is : (c : need.After-with-sign) → toZ w64 (c .unsigned-abs-d .result / c .common-divisor-g .result) ≡ pos (c .unsigned-abs-d .result / c .common-divisor-g .result)
 bottom-is c = toZ-pos w64 _ (omega arith)

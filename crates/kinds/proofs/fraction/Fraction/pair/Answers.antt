@@ -1,6 +1,7 @@
 use mathlib.Core.Path.{sym, _∙_}
 use native.Mathlib.Omega.{arith}
-use Rattle.kinds.specs.Fractions.{sound-of, value}
+use Rattle.kinds.specs.Fractions.{value}
+use Rattle.kinds.proofs.Held.{sound-of}
 use Rattle.kinds.specs.Pairs.{put}
 use Rattle.kinds.specs.Sound.{sound-num, sound-den}
 use Rattle.kinds.proofs.Bounds.{back}

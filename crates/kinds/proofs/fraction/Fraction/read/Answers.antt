@@ -5,11 +5,12 @@ use mir.Syntax.{w64}
 use mir.Val.{SFits}
 use Rattle.std.proofs.shelf.Signed.{toZ-ofZ}
 use Rattle.std.proofs.shelf.Tests.{cond-true, cond-false}
-use Rattle.kinds.specs.Bounded.{sound, ratio}
+use Rattle.algebra.specs.Rationals.{ratio, zero-ratio}
+use Rattle.kinds.specs.Bounded.{sound}
 use Rattle.kinds.specs.Fractions.{value}
 use Rattle.kinds.specs.Pairs.{mean}
-use Rattle.kinds.specs.Sound.{sound-out, parts}
-use Rattle.kinds.specs.Meanings.{zero-ratio}
+use Rattle.kinds.specs.Sound.{sound-out}
+use Rattle.kinds.proofs.Held.{parts}
 use Rattle.kinds.proofs.Bounds.{whole-sound}
 use Rattle.kinds.proofs.fraction.Fraction.read.Needs as need
 

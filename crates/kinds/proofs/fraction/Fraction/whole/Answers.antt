@@ -3,9 +3,10 @@ use native.Mathlib.Omega.{arith}
 use mir.Syntax.{w64}
 use lib.IntN.{pos}
 use Rattle.std.proofs.shelf.Signed.{toZ-pos}
-use Rattle.kinds.specs.Bounded.{ratio}
+use Rattle.algebra.specs.Rationals.{ratio}
 use Rattle.kinds.specs.Fractions.{value}
-use Rattle.kinds.specs.Sound.{Sound, parts}
+use Rattle.kinds.specs.Sound.{Sound}
+use Rattle.kinds.proofs.Held.{parts}
 use Rattle.kinds.proofs.Bounds.{whole-sound}
 use Rattle.kinds.proofs.fraction.Fraction.whole.Needs as need
 

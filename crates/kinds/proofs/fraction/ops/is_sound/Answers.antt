@@ -5,7 +5,7 @@ use lib.Dec.{eqb}
 use lib.IntN.{natAbs}
 use Rattle.std.proofs.shelf.Signed.{ints, toZ-ofZ}
 use Rattle.algebra.specs.Gcd.{gcd}
-use Rattle.kinds.specs.Sound.{not-above, den-large, num-large, only-gcd}
+use Rattle.kinds.proofs.Held.{not-above, den-large, num-large, over-one, only-gcd}
 use Rattle.kinds.proofs.fraction.ops.is_sound.Needs as need
 
 pub returns-then-den-lt1 : need.returns-then-den-lt1
@@ -16,6 +16,10 @@ returns-then-d-gt-LIMIT c = den-large (c .args .num) (c .args .den) (omega (arit
 
 pub returns-then-n-gt-LIMIT : need.returns-then-n-gt-LIMIT
 returns-then-n-gt-LIMIT c = num-large (c .args .num) (c .args .den) (omega (arith, ints))
+
+pub returns-then-d-eq1 : need.returns-then-d-eq1
+returns-then-d-eq1 c =
+    over-one (c .args .num) (c .args .den) (sym (omega (arith, ints))) (omega (arith, ints)) (omega (arith, ints))
 
 pub returns : need.returns
 returns c =

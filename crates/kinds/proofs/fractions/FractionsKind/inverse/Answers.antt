@@ -1,7 +1,8 @@
 use mathlib.Core.Path.{_∙_}
 use Rattle.kinds.specs.Arith.{inverse-of}
-use Rattle.kinds.specs.Meanings.{fraction-arith, inverse-told}
+use Rattle.kinds.specs.FractionArith.{fraction-arith}
 use Rattle.kinds.specs.Pairs.{mean}
+use Rattle.kinds.proofs.Told.{inverse-told}
 use Rattle.kinds.proofs.fractions.FractionsKind.inverse.Needs as need
 
 pub returns : need.returns

@@ -1,7 +1,8 @@
 use mathlib.Core.Path.{_∙_}
 use Rattle.kinds.specs.Arith.{zero-test}
-use Rattle.kinds.specs.Meanings.{fraction-arith, zero-decided}
+use Rattle.kinds.specs.FractionArith.{fraction-arith}
 use Rattle.kinds.specs.Pairs.{mean}
+use Rattle.kinds.proofs.Told.{zero-decided}
 use Rattle.kinds.proofs.fractions.FractionsKind.is_zero.Needs as need
 
 pub returns : need.returns

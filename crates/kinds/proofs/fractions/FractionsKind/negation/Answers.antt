@@ -1,5 +1,5 @@
 use Rattle.kinds.specs.Arith.{negation-of}
-use Rattle.kinds.specs.Meanings.{fraction-arith}
+use Rattle.kinds.specs.FractionArith.{fraction-arith}
 use Rattle.kinds.proofs.fractions.FractionsKind.negation.Needs as need
 
 pub returns : need.returns

@@ -1,5 +1,5 @@
 use Rattle.kinds.specs.Arith.{product-of}
-use Rattle.kinds.specs.Meanings.{fraction-arith}
+use Rattle.kinds.specs.FractionArith.{fraction-arith}
 use Rattle.kinds.proofs.fractions.FractionsKind.product.Needs as need
 
 pub returns : need.returns

@@ -1,5 +1,5 @@
 use Rattle.kinds.specs.Arith.{sum-of}
-use Rattle.kinds.specs.Meanings.{fraction-arith}
+use Rattle.kinds.specs.FractionArith.{fraction-arith}
 use Rattle.kinds.proofs.fractions.FractionsKind.sum.Needs as need
 
 pub returns : need.returns

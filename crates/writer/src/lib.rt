@@ -1,0 +1,3 @@
+pub mod refusal;
+pub mod table;
+mod write;
