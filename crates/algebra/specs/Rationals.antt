@@ -289,10 +289,6 @@ ratio n (pos zero) = zeroℚ
 ratio n (pos (suc d)) = reduce n (suc d) (zero-lt-suc d)
 ratio n (negsuc d) = reduce (negℤ n) (suc d) (zero-lt-suc d)
 
-pub ratio-zero : (n : ℤ) → ratio n (pos 0) ≡ zeroℚ
-unfolding ratio
-ratio-zero n = refl
-
 pub ratio-value : (n : ℤ) (d : ℕ) → 0 < d → Value n d (ratio n (pos d))
 unfolding ratio
 ratio-value n zero h = absurd (omega arith)
@@ -392,15 +388,8 @@ one-ratio = same (ratio-value (pos 1) 1 (zero-lt-suc 0)) one-value refl
 unfoldable pub invert : ℚ → ℚ
 invert q = ratio (pos (q .den)) (q .num)
 
-pub zero-numerator : zeroℚ .num ≡ pos 0
-unfolding zeroℚ
-zero-numerator = refl
-
 pub num-not-zero : (q : ℚ) → ¬ (q ≡ zeroℚ) → ¬ (natAbs (q .num) ≡ 0)
 num-not-zero q h e = h (zero-num q (abs-zero (q .num) e))
-
-pub not-zero : (q : ℚ) → ¬ (natAbs (q .num) ≡ 0) → ¬ (q ≡ zeroℚ)
-not-zero q h e = h (ap natAbs (ap (λ (r : ℚ). r .num) e ∙ zero-numerator))
 
 inverted : (n : ℤ) (d : ℕ) (h : 0 < d) (e : gcd (natAbs n) d ≡ 1) → ¬ (natAbs n ≡ 0) → mulℚ (record { num = n; den = d; positive = h; lowest = e }) (ratio (pos d) n) ≡ oneℚ
 unfolding ratio integers
@@ -421,8 +410,3 @@ inv-invert q h = inv-is rationals q (invert q) (mul-invert q h)
 pub invert-zero : invert zeroℚ ≡ zeroℚ
 unfolding invert zeroℚ ratio
 invert-zero = refl
-
--- the inverse of a ratio is the ratio turned over
-pub invert-ratio : (n : ℤ) (d : ℕ) → 0 < d → gcd (natAbs n) d ≡ 1 → invert (ratio n (pos d)) ≡ ratio (pos d) n
-unfolding invert
-invert-ratio n d h e = ap₂ (λ s t. ratio (pos s) t) (ratio-den n d h e) (ratio-num n d h e)

@@ -16,7 +16,6 @@ use Rattle.std.proofs.shelf.Tests.{eqb-true, eqb-false}
 use Rattle.algebra.specs.Ring.{Ring}
 use Rattle.algebra.specs.RingLaws.{nat, nat-zero, nat-suc, neg-unique, inv-is, inv-absent}
 use Rattle.algebra.specs.Solver.{_:+_, _:*_, :-_, _:-_, _:=_, solve₃, solve₄}
-use Rattle.algebra.specs.Integers.{int, int-pos, int-neg}
 use Rattle.algebra.specs.Gcd.{gcd}
 use Rattle.algebra.specs.Remainders.{mul-mod-left, mul-mod-right, mul-mod, one-mod}
 use Rattle.algebra.specs.Bezout.{cofactor, cofactor-lt, coprime-inverse, inverse-coprime}
@@ -128,15 +127,8 @@ module _ (m : ℕ) (big : 1 < m) where
   unfolding residues
   class-one = refl
 
-  pub class-modulus : class m ≡ residues .𝟘
-  unfolding residues
-  class-modulus = same-residue _ _ (mod-self m ∙ sym (zero-mod m))
-
   pub class-same : (a b : ℕ) → a % m ≡ b % m → class a ≡ class b
   class-same a b e = same-residue _ _ e
-
-  pub class-mod : (a : ℕ) → class (a % m) ≡ class a
-  class-mod a = same-residue _ _ (mod-mod a m)
 
   pub class-add : (a b : ℕ) → class (a + b) ≡ residues .add (class a) (class b)
   unfolding residues
@@ -160,34 +152,11 @@ module _ (m : ℕ) (big : 1 < m) where
   nat-class (suc n) =
       nat-suc residues n ∙ ap₂ (residues .add) (sym class-one) (nat-class n) ∙ sym (class-add 1 n) ∙ ap class (one-add n)
 
-  -- the image of an integer is the residue of what it is congruent to
-  pub int-class : (n : ℕ) → int residues (pos n) ≡ class n
-  int-class n = int-pos residues n ∙ nat-class n
-
-  pub int-class-neg : (n : ℕ) → int residues (negℤ (pos n)) ≡ class (m - n % m)
-  int-class-neg n = int-neg residues (pos n) ∙ ap (residues .neg) (int-class n) ∙ neg-class n
-
   -- ---- the representative of a result
 
   pub zero-representative : residues .𝟘 .0 ≡ 0
   unfolding residues
   zero-representative = zero-mod m
-
-  pub one-representative : residues .𝟙 .0 ≡ 1
-  unfolding residues
-  one-representative = one-mod m big
-
-  pub add-representative : (a b : Residue m) → residues .add a b .0 ≡ (a .0 + b .0) % m
-  unfolding residues
-  add-representative a b = refl
-
-  pub mul-representative : (a b : Residue m) → residues .mul a b .0 ≡ (a .0 * b .0) % m
-  unfolding residues
-  mul-representative a b = refl
-
-  pub neg-representative : (a : Residue m) → residues .neg a .0 ≡ (m - a .0) % m
-  unfolding residues
-  neg-representative a = refl
 
   -- ---- what is invertible
 
@@ -198,9 +167,6 @@ module _ (m : ℕ) (big : 1 < m) where
   pub unit-coprime : (a b : Residue m) → residues .mul a b ≡ residues .𝟙 → gcd (a .0) m ≡ 1
   unfolding residues
   unit-coprime a b e = inverse-coprime (a .0) (b .0) m (ap (λ (r : Residue m). r .0) e ∙ one-mod m big)
-
-  pub inv-coprime : (a : Residue m) → gcd (a .0) m ≡ 1 → residues .inv a ≡ some (inverse-residue a)
-  inv-coprime a e = inv-is residues a (inverse-residue a) (coprime-unit a e)
 
   pub inv-not-coprime : (a : Residue m) → ¬ (gcd (a .0) m ≡ 1) → residues .inv a ≡ none
   inv-not-coprime a h = inv-absent residues a (λ b e. h (unit-coprime a b e))

@@ -106,14 +106,6 @@ module _ {C : Type 0} (R : Ring C) where
 
   -- ---- equations
 
-  -- with p = q, an equation l = r holds if l + k q = r + k p does
-  pub by-equation : (l r k p q : C) → p ≡ q → l + k * q ≡ r + k * p → l ≡ r
-  by-equation l r k p q h e =
-      cancel (k * q) l r (add-comm (k * q) l ∙ e ∙ ap (λ t. r + k * t) h ∙ add-comm r (k * q))
-
-  pub sub-zero : (a b : C) → a + neg b ≡ 𝟘 → a ≡ b
-  sub-zero a b e = sym (neg-neg a) ∙ ap neg (neg-unique a (neg b) e) ∙ neg-neg b
-
   -- ---- inverses
 
   pub inv-unique : (a b c : C) → a * b ≡ 𝟙 → a * c ≡ 𝟙 → b ≡ c
@@ -134,23 +126,5 @@ module _ {C : Type 0} (R : Ring C) where
       go (some c) e = absurd (h c (inv-some a c e))
       go none e = e
 
-  pub inv-one : inv 𝟙 ≡ some 𝟙
-  inv-one = inv-is 𝟙 𝟙 (mul-one 𝟙)
-
   pub inv-zero : inv 𝟘 ≡ none
   inv-zero = inv-absent 𝟘 (λ b e. one≢zero (sym e ∙ zero-mul b))
-
-  pub inv-inv : (a b : C) → inv a ≡ some b → inv b ≡ some a
-  inv-inv a b e = inv-is b a (mul-comm b a ∙ inv-some a b e)
-
-  pub inv-mul : (a b c d : C) → inv a ≡ some b → inv c ≡ some d → inv (a * c) ≡ some (b * d)
-  inv-mul a b c d p q =
-      inv-is (a * c) (b * d)
-      (mul-assoc a c (b * d) ∙ ap (λ t. a * t) (mul-left-comm c b d) ∙ sym (mul-assoc a b (c * d))
-      ∙ ap₂ _*_ (inv-some a b p) (inv-some c d q) ∙ mul-one 𝟙)
-
-  -- what has an inverse can be cancelled
-  pub mul-cancel : (u a b c : C) → a * u ≡ 𝟙 → a * b ≡ a * c → b ≡ c
-  mul-cancel u a b c h e =
-      let f : (t : C) → u * (a * t) ≡ t = λ t. sym (mul-assoc u a t) ∙ ap (λ s. s * t) (mul-comm u a ∙ h) ∙ one-mul t in
-      sym (f b) ∙ ap (λ t. u * t) e ∙ f c

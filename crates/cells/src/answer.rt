@@ -15,6 +15,7 @@ use tables::terms::Term;
 use tables::terms::TermClone;
 use writer::refusal::put_refusal;
 use writer::table::put_table;
+use writer::write::FileText;
 
 // How long a cell's text may be, and how many lines of terms it may have.
 pub const MOST_BYTES: usize = 65536;
@@ -61,7 +62,7 @@ fn solved(
 }
 
 // Writes the file of the solution, or the refusal, and answers how long it is.
-fn put_answer(out: &mut [u8; 16384], solved: Result<Dimension, Fault>, target: &[Pair]) -> usize
+fn put_answer(out: &mut FileText, solved: Result<Dimension, Fault>, target: &[Pair]) -> usize
     ensures { λ r. ⌜ r ≤ 16384 ⌝ }
 {
     match solved {
@@ -78,7 +79,7 @@ fn printed(
 ) -> Result<Vec<u8>, AllocError>
     ensures { λ r. ⌜ made r (λ v. vec-len v ≤ 16384) ⌝ }
 {
-    let mut out = [0u8; 16384];
+    let mut out: FileText = [0u8; 16384];
     let length = put_answer(&mut out, solved, target);
     Vec::from_slice(heap, &out[0..length])
 }

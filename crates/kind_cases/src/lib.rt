@@ -6,8 +6,8 @@ ghost use Rattle.std.specs.declared.result.Result.the-variants.{Ok, Err};
 use kinds::fault::Fault;
 use kinds::pairs::Pair;
 
-/// An answer with its two numbers side by side.
-pub fn numbers(answer: Result<Pair, Fault>) -> Result<(i64, i64), Fault>
+// An answer with its two numbers side by side.
+fn numbers(answer: Result<Pair, Fault>) -> Result<(i64, i64), Fault>
     ensures { λ r. ⌜ Cases answer (λ p. r ≡ Ok (p .num, p .den)) (λ e. r ≡ Err e) ⌝ }
 {
     let p = answer?;

@@ -11,7 +11,5 @@ tables-of Plane n = 91 * n
 tables-of Space n = 455 * n
 
 -- slices of these lengths hold a source, a target and n working tables
-pub record Roomy (d : Dimension) (n source target work : ℕ) : Type 0 where
-  pub for-source : size-of d ≤ source
-  pub for-target : size-of d ≤ target
-  pub for-work : tables-of d n ≤ work
+abbrev pub Roomy : Dimension → (n source target work : ℕ) → Type 0
+Roomy d n source target work = (size-of d ≤ source) × (size-of d ≤ target) × (tables-of d n ≤ work)

@@ -3,6 +3,9 @@ use kinds::fault::Fault;
 use kinds::kind::Kind;
 use tables::dimension::Dimension;
 use tables::monomial::Axis;
+use tables::monomial::Axis::X;
+use tables::monomial::Axis::Y;
+use tables::monomial::Axis::Z;
 use tables::moves::derivative;
 use tables::moves::shift;
 use tables::steps::add_into;
@@ -64,16 +67,8 @@ fn join_mixed<K: Kind>(
 ) -> Result<(), Fault> {
     let (first, second, value) = by;
     let double = k.sum(value, value)?;
-    join_term(
-        k,
-        dimension,
-        reading,
-        (first, second, double),
-        from,
-        to,
-        one,
-        two,
-    )
+    let twice = (first, second, double);
+    join_term(k, dimension, reading, twice, from, to, one, two)
 }
 
 fn join_space<K: Kind>(
@@ -86,66 +81,12 @@ fn join_space<K: Kind>(
     two: &mut [K::Value],
 ) -> Result<(), Fault> {
     let d = Dimension::Space;
-    join_term(
-        k,
-        d,
-        reading,
-        (Axis::X, Axis::X, form.xx),
-        from,
-        to,
-        one,
-        two,
-    )?;
-    join_mixed(
-        k,
-        d,
-        reading,
-        (Axis::X, Axis::Y, form.xy),
-        from,
-        to,
-        one,
-        two,
-    )?;
-    join_mixed(
-        k,
-        d,
-        reading,
-        (Axis::X, Axis::Z, form.xz),
-        from,
-        to,
-        one,
-        two,
-    )?;
-    join_term(
-        k,
-        d,
-        reading,
-        (Axis::Y, Axis::Y, form.yy),
-        from,
-        to,
-        one,
-        two,
-    )?;
-    join_mixed(
-        k,
-        d,
-        reading,
-        (Axis::Y, Axis::Z, form.yz),
-        from,
-        to,
-        one,
-        two,
-    )?;
-    join_term(
-        k,
-        d,
-        reading,
-        (Axis::Z, Axis::Z, form.zz),
-        from,
-        to,
-        one,
-        two,
-    )
+    join_term(k, d, reading, (X, X, form.xx), from, to, one, two)?;
+    join_mixed(k, d, reading, (X, Y, form.xy), from, to, one, two)?;
+    join_mixed(k, d, reading, (X, Z, form.xz), from, to, one, two)?;
+    join_term(k, d, reading, (Y, Y, form.yy), from, to, one, two)?;
+    join_mixed(k, d, reading, (Y, Z, form.yz), from, to, one, two)?;
+    join_term(k, d, reading, (Z, Z, form.zz), from, to, one, two)
 }
 
 fn join_plane<K: Kind>(
@@ -158,36 +99,9 @@ fn join_plane<K: Kind>(
     two: &mut [K::Value],
 ) -> Result<(), Fault> {
     let d = Dimension::Plane;
-    join_term(
-        k,
-        d,
-        reading,
-        (Axis::X, Axis::X, form.xx),
-        from,
-        to,
-        one,
-        two,
-    )?;
-    join_mixed(
-        k,
-        d,
-        reading,
-        (Axis::X, Axis::Y, form.xy),
-        from,
-        to,
-        one,
-        two,
-    )?;
-    join_term(
-        k,
-        d,
-        reading,
-        (Axis::Y, Axis::Y, form.yy),
-        from,
-        to,
-        one,
-        two,
-    )
+    join_term(k, d, reading, (X, X, form.xx), from, to, one, two)?;
+    join_mixed(k, d, reading, (X, Y, form.xy), from, to, one, two)?;
+    join_term(k, d, reading, (Y, Y, form.yy), from, to, one, two)
 }
 
 // A quadratic form of derivatives, or of coordinates, on the table `from`, into `to`: its terms by rows of the upper

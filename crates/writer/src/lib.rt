@@ -1,3 +1,3 @@
 pub mod refusal;
 pub mod table;
-mod write;
+pub mod write;

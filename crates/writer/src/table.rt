@@ -1,5 +1,6 @@
 ghost use Prim.Native.Nat.{_+_, _≤_};
 ghost use Rattle.tables.specs.Places.{exponents};
+use crate::write::FileText;
 use crate::write::put_line;
 use crate::write::put_names;
 use files::row::Row;
@@ -9,7 +10,7 @@ use tables::dimension::Dimension;
 use tables::monomial::Monomial;
 
 // Writes the line of a coefficient, unless it is zero. Such a line has at most 33 bytes.
-fn put_coefficient(out: &mut [u8; 16384], at: usize, m: Monomial, value: Pair) -> usize
+fn put_coefficient(out: &mut FileText, at: usize, m: Monomial, value: Pair) -> usize
     requires { ⌜ at + 33 ≤ 16384 ⌝ ∗ ⌜ exponents m ≤ 12 ⌝ }
     ensures { λ r. ⌜ r ≤ at + 33 ⌝ }
 {
@@ -32,7 +33,7 @@ fn put_coefficient(out: &mut [u8; 16384], at: usize, m: Monomial, value: Pair) -
 
 // Writes the file of a table at the beginning of the text: the line of names, and the terms that are not zero, by place.
 // It answers the place after them. There is always room.
-pub fn put_table(out: &mut [u8; 16384], dimension: Dimension, table: &[Pair]) -> usize
+pub fn put_table(out: &mut FileText, dimension: Dimension, table: &[Pair]) -> usize
     ensures { λ r. ⌜ r ≤ 16384 ⌝ }
 {
     let mut to = match put_names(out, 0) {

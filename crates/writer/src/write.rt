@@ -7,9 +7,11 @@ use files::row::Row;
 
 // The length of the text that is written to; each function takes a place in it, or its end, and answers the place after what it
 // wrote, or nothing where there is no room.
+pub type FileText = [u8; 16384];
+
 const ROOM: usize = 16384;
 
-fn put_byte(out: &mut [u8; 16384], at: usize, b: u8) -> Option<usize>
+fn put_byte(out: &mut FileText, at: usize, b: u8) -> Option<usize>
     requires { ⌜ at ≤ 16384 ⌝ }
     ensures { λ r. ⌜ Wrote (now (out .entry)) at (b ∷ []) (now (out .exit)) r ⌝ }
 {
@@ -20,7 +22,7 @@ fn put_byte(out: &mut [u8; 16384], at: usize, b: u8) -> Option<usize>
     Some(at + 1)
 }
 
-pub(crate) fn put_bytes(out: &mut [u8; 16384], at: usize, bytes: &[u8]) -> Option<usize>
+pub(crate) fn put_bytes(out: &mut FileText, at: usize, bytes: &[u8]) -> Option<usize>
     requires { ⌜ at ≤ 16384 ⌝ }
     ensures { λ r. ⌜ Wrote (now (out .entry)) at (now (bytes .entry)) (now (out .exit)) r ⌝ }
 {
@@ -31,7 +33,7 @@ pub(crate) fn put_bytes(out: &mut [u8; 16384], at: usize, bytes: &[u8]) -> Optio
     Some(to)
 }
 
-fn put_natural(out: &mut [u8; 16384], at: usize, n: u64) -> Option<usize>
+fn put_natural(out: &mut FileText, at: usize, n: u64) -> Option<usize>
     requires { ⌜ at ≤ 16384 ⌝ }
     ensures { λ r. ⌜ Wrote (now (out .entry)) at (decimal n) (now (out .exit)) r ⌝ }
 {
@@ -42,7 +44,7 @@ fn put_natural(out: &mut [u8; 16384], at: usize, n: u64) -> Option<usize>
     put_byte(out, to, b'0' + (n % 10) as u8)
 }
 
-fn put_signed(out: &mut [u8; 16384], at: usize, z: i64) -> Option<usize>
+fn put_signed(out: &mut FileText, at: usize, z: i64) -> Option<usize>
     requires { ⌜ at ≤ 16384 ⌝ }
     ensures { λ r. ⌜ Wrote (now (out .entry)) at (signed z) (now (out .exit)) r ⌝ }
 {
@@ -54,7 +56,7 @@ fn put_signed(out: &mut [u8; 16384], at: usize, z: i64) -> Option<usize>
 }
 
 // A number without a sign and the byte that ends its word.
-pub(crate) fn put_size(out: &mut [u8; 16384], at: usize, n: u64, end: u8) -> Option<usize>
+pub(crate) fn put_size(out: &mut FileText, at: usize, n: u64, end: u8) -> Option<usize>
     requires { ⌜ at ≤ 16384 ⌝ }
     ensures { λ r. ⌜ Wrote (now (out .entry)) at (decimal n ++ (end ∷ [])) (now (out .exit)) r ⌝ }
 {
@@ -63,7 +65,7 @@ pub(crate) fn put_size(out: &mut [u8; 16384], at: usize, n: u64, end: u8) -> Opt
 }
 
 // A number with a sign and the byte that ends its word.
-fn put_value(out: &mut [u8; 16384], at: usize, z: i64, end: u8) -> Option<usize>
+fn put_value(out: &mut FileText, at: usize, z: i64, end: u8) -> Option<usize>
     requires { ⌜ at ≤ 16384 ⌝ }
     ensures { λ r. ⌜ Wrote (now (out .entry)) at (signed z ++ (end ∷ [])) (now (out .exit)) r ⌝ }
 {
@@ -72,7 +74,7 @@ fn put_value(out: &mut [u8; 16384], at: usize, z: i64, end: u8) -> Option<usize>
 }
 
 // The line of the names of a term's values.
-pub(crate) fn put_names(out: &mut [u8; 16384], at: usize) -> Option<usize>
+pub(crate) fn put_names(out: &mut FileText, at: usize) -> Option<usize>
     requires { ⌜ at ≤ 16384 ⌝ }
     ensures { λ r. ⌜ Wrote (now (out .entry)) at names (now (out .exit)) r ⌝ }
 {
@@ -80,7 +82,7 @@ pub(crate) fn put_names(out: &mut [u8; 16384], at: usize) -> Option<usize>
 }
 
 // The line of a term's values.
-pub(crate) fn put_line(out: &mut [u8; 16384], at: usize, row: &Row) -> Option<usize>
+pub(crate) fn put_line(out: &mut FileText, at: usize, row: &Row) -> Option<usize>
     requires { ⌜ at ≤ 16384 ⌝ }
     ensures { λ r. ⌜ Wrote (now (out .entry)) at (line (now (row .entry))) (now (out .exit)) r ⌝ }
 {
