@@ -61,12 +61,30 @@ const FRACTIONS: [Pair; 8] = [
     Pair { num: 7, den: 96 },
     Pair { num: 1, den: 16 },
     Pair { num: 0, den: 1 },
-    Pair { num: 2147483, den: 1 },
-    Pair { num: -190053, den: 88 },
-    Pair { num: 12345, den: 6862 },
+    Pair {
+        num: 2147483,
+        den: 1,
+    },
+    Pair {
+        num: -190053,
+        den: 88,
+    },
+    Pair {
+        num: 12345,
+        den: 6862,
+    },
 ];
 
-const RESIDUES: [u32; 8] = [1, 2147483646, 65537, 0, 1234567890, 7, 1000000007, 4294967295];
+const RESIDUES: [u32; 8] = [
+    1,
+    2147483646,
+    65537,
+    0,
+    1234567890,
+    7,
+    1000000007,
+    4294967295,
+];
 
 // The kind, the operation and the number of rounds, of 64 results each, are given as arguments.
 fn run(rt: &LibcRuntime) -> Result<(), AnyError> {
@@ -75,7 +93,11 @@ fn run(rt: &LibcRuntime) -> Result<(), AnyError> {
     let kind = words.next().ok_or("no kind")?;
     let name = words.next().ok_or("no operation")?;
     let rounds = words.next().ok_or("no rounds")?.as_str().parse::<u64>()?;
-    let operation = if name.as_str() == "sum" { Operation::Sum } else { Operation::Product };
+    let operation = if name.as_str() == "sum" {
+        Operation::Sum
+    } else {
+        Operation::Product
+    };
     let none = if kind.as_str() == "fractions" {
         tally(&Fractions, operation, &FRACTIONS, rounds)
     } else {

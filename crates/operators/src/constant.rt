@@ -1,3 +1,5 @@
+ghost use Rattle.std.specs.declared.option.Option.the-variants.{None};
+ghost use Rattle.operators.specs.Piles.{leaf-outside};
 use crate::operator::Forward;
 use crate::operator::Solvable;
 use crate::questions::SIMPLE_NEED;
@@ -52,6 +54,16 @@ fn quotient<K: Kind>(
 }
 
 pub impl<V: Copy> Shape for Constant<V> as ConstantShape {
+    ghost given = { λ o. o .dimension };
+
+    ghost outside = { λ o. leaf-outside (o .dimension) };
+
+    ghost unfit = { λ _ _. None };
+
+    ghost least = { λ _. 0 };
+
+    ghost tables = { λ _. 6 };
+
     fn given_dimension(&self) -> u64 {
         self.dimension
     }
@@ -74,6 +86,8 @@ pub impl<V: Copy> Shape for Constant<V> as ConstantShape {
 }
 
 pub impl<V: Copy> Lifting for Constant<V> as ConstantLifting {
+    ghost rise = { λ _. 0 };
+
     fn lift(&self) -> u32 {
         0
     }

@@ -1,8 +1,4 @@
 pub mod constant;
-pub mod laplacian;
-pub mod matrix;
 pub mod operator;
-mod quadratic;
-mod questions;
-pub mod remainder;
+pub mod questions;
 pub mod shape;

@@ -1,25 +1,27 @@
 ghost use mathlib.Core.Path.{_≡_};
 ghost use Prim.Native.Nat.{_+_, _-_, _*_, _<_, _≤_};
 ghost use lib.ListN.{length};
+ghost use Rattle.std.specs.declared.option.Option.the-variants.{None};
+ghost use Rattle.operators.specs.Piles.{leaf-outside};
 ghost use Rattle.operators.specs.Rooms.{tables-of};
 use crate::matrix::Symmetric;
 use crate::matrix::SymmetricClone;
 use crate::matrix::inverted;
-use crate::operator::Forward;
-use crate::operator::Solvable;
 use crate::quadratic::Reading;
 use crate::quadratic::quadratic;
-use crate::questions::SIMPLE_NEED;
-use crate::questions::degree_asked;
-use crate::questions::leaf_dimension;
-use crate::questions::pile_asked;
-use crate::questions::room_asked;
-use crate::questions::settled;
-use crate::shape::Lifting;
-use crate::shape::Shape;
 use kinds::fault::Fault;
 use kinds::fault::Question;
 use kinds::kind::Kind;
+use operators::operator::Forward;
+use operators::operator::Solvable;
+use operators::questions::SIMPLE_NEED;
+use operators::questions::degree_asked;
+use operators::questions::leaf_dimension;
+use operators::questions::pile_asked;
+use operators::questions::room_asked;
+use operators::questions::settled;
+use operators::shape::Lifting;
+use operators::shape::Shape;
 use tables::degree::is_zero;
 use tables::dimension::Dimension;
 use tables::moves::part;
@@ -231,6 +233,16 @@ fn action<K: Kind>(
 }
 
 pub impl<V: Copy> Shape for Laplacian<V> as LaplacianShape {
+    ghost given = { λ o. o .dimension };
+
+    ghost outside = { λ o. leaf-outside (o .dimension) };
+
+    ghost unfit = { λ _ _. None };
+
+    ghost least = { λ _. 2 };
+
+    ghost tables = { λ _. 6 };
+
     fn given_dimension(&self) -> u64 {
         self.dimension
     }
@@ -253,6 +265,8 @@ pub impl<V: Copy> Shape for Laplacian<V> as LaplacianShape {
 }
 
 pub impl<V: Copy> Lifting for Laplacian<V> as LaplacianLifting {
+    ghost rise = { λ _. 2 };
+
     fn lift(&self) -> u32 {
         2
     }

@@ -1,6 +1,6 @@
 use Prim.Native.Nat.{ℕ, zero, suc, _+_, _-_, _*_, _≤_, _<_}
 use native.Mathlib.Omega.{arith}
-use Rattle.operators.proofs.laplacian.divisor.Needs as need
+use Rattle.laplace.proofs.laplacian.divisor.Needs as need
 
 -- for each l the divisor grows with n and d alone
 small : (l n d : ℕ) → d ≤ 3 → n ≤ 10 → 2 * l ≤ n → 2 * (l + 1) * (2 * n - 2 * l + d) < 256

@@ -1,18 +1,22 @@
-ghost use Prim.Native.Nat.{_≤_};
+ghost use mathlib.Core.Path.{_≡_};
+ghost use Prim.Native.Nat.{_≤_, min};
 ghost use lib.ListN.{length};
+ghost use Rattle.tables.specs.Outcomes.{Told};
+ghost use Rattle.operators.specs.Piles.{or-else, deeper, layer-need};
 ghost use Rattle.operators.specs.Rooms.{tables-of};
-use crate::operator::Forward;
-use crate::operator::Solvable;
-use crate::questions::degree_asked;
-use crate::questions::layer_need;
-use crate::questions::pile_asked;
-use crate::questions::room_asked;
-use crate::questions::settled;
-use crate::shape::Lifting;
-use crate::shape::Shape;
+ghost use Rattle.layers.specs.Layers.{remainder-unfit, from-below};
 use kinds::fault::Fault;
 use kinds::fault::Question;
 use kinds::kind::Kind;
+use operators::operator::Forward;
+use operators::operator::Solvable;
+use operators::questions::degree_asked;
+use operators::questions::layer_need;
+use operators::questions::pile_asked;
+use operators::questions::room_asked;
+use operators::questions::settled;
+use operators::shape::Lifting;
+use operators::shape::Shape;
 use tables::degree::is_zero;
 use tables::dimension::Dimension;
 use tables::steps::add_into;
@@ -29,7 +33,9 @@ pub struct Remainder<B, R> {
 }
 
 // The layer's own part in a question on the pile.
-fn layer_asked<B: Lifting, R: Shape>(base: &B, rest: &R, question: Question) -> Result<(), Fault> {
+fn layer_asked<B: Lifting, R: Shape>(base: &B, rest: &R, question: Question) -> Result<(), Fault>
+    ensures { λ r. ⌜ Told (remainder-unfit (B·Shape .given (now (base .entry))) (R·Shape .given (now (rest .entry))) (B·Lifting .rise (now (base .entry))) (R·Shape .least (now (rest .entry))) question) r ⌝ }
+{
     let no = match question {
         Question::Agreement => base.given_dimension() != rest.given_dimension(),
         Question::Order => rest.order() <= base.lift(),
@@ -43,7 +49,9 @@ fn layer_asked<B: Lifting, R: Shape>(base: &B, rest: &R, question: Question) -> 
 }
 
 // What comes from a part of a layer is one layer deeper.
-fn below<T>(answer: Result<T, Fault>) -> Result<T, Fault> {
+fn below<T>(answer: Result<T, Fault>) -> Result<T, Fault>
+    ensures { λ r. ⌜ r ≡ from-below answer ⌝ }
+{
     match answer {
         Ok(v) => Ok(v),
         Err(e) => Err(e.deeper()),
@@ -175,6 +183,16 @@ fn action<K: Kind, B: Solvable<K>, R: Forward<K>>(
 }
 
 pub impl<B: Lifting, R: Shape> Shape for Remainder<B, R> as RemainderShape {
+    ghost given = { λ o. B·Shape .given (o .base) };
+
+    ghost outside = { λ o. or-else (deeper (B·Shape .outside (o .base))) (deeper (R·Shape .outside (o .rest))) };
+
+    ghost unfit = { λ o q. or-else (remainder-unfit (B·Shape .given (o .base)) (R·Shape .given (o .rest)) (B·Lifting .rise (o .base)) (R·Shape .least (o .rest)) q) (or-else (deeper (B·Shape .unfit (o .base) q)) (deeper (R·Shape .unfit (o .rest) q))) };
+
+    ghost least = { λ o. min (B·Shape .least (o .base)) (R·Shape .least (o .rest)) };
+
+    ghost tables = { λ o. layer-need (B·Shape .tables (o .base)) (R·Shape .tables (o .rest)) };
+
     fn given_dimension(&self) -> u64 {
         self.base.given_dimension()
     }
@@ -201,6 +219,8 @@ pub impl<B: Lifting, R: Shape> Shape for Remainder<B, R> as RemainderShape {
 }
 
 pub impl<B: Lifting, R: Shape> Lifting for Remainder<B, R> as RemainderLifting {
+    ghost rise = { λ o. B·Lifting .rise (o .base) };
+
     fn lift(&self) -> u32 {
         self.base.lift()
     }

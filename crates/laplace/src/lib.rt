@@ -1,0 +1,3 @@
+pub mod laplacian;
+pub mod matrix;
+mod quadratic;
