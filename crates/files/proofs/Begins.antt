@@ -1,4 +1,5 @@
 -- A name, byte by byte.
+use mathlib.Core.Bool.{true}
 use mathlib.Core.Path.{_≡_, sym, ap, _∙_, subst}
 use mathlib.Core.List.{List, [], _∷_, _++_}
 use Prim.Native.Nat.{ℕ, _+_, _-_, _<_, _≤_}
@@ -7,7 +8,7 @@ use lib.ListN.{length, getD, take, drop}
 use Rattle.std.proofs.shelf.Edits.{between-more}
 use Rattle.std.proofs.shelf.Lists.{take-more, take-all, drop-more, getD-append-left, getD-at}
 use Rattle.files.specs.declared.token.Token.{Token}
-use Rattle.files.specs.Tokens.{word-of}
+use Rattle.files.specs.Tokens.{word-of, is-name}
 use Rattle.files.specs.Names.{Begun, Names, Misnames}
 use Rattle.files.proofs.Tools.{cut}
 
@@ -37,12 +38,13 @@ unended text from want end to i b l n =
     record { forward = omega (arith, b .place); within = b .within; begun = moved-begun text from want to i b; stops = λ k q. n k (q ∙ getD-at want end [] 0 (to - from) e) }
 
 pub named : (text : List ℕ) (from : ℕ) (want : List ℕ) (end to i : ℕ) (tok : Token) → Begun text from want to i → length want ≤ i → (to ≡ length text → ⊥) → getD text to 0 ≡ end →
-    word-of tok ≡ take (to - from) (drop from text) → Names text from want end (to + 1) tok
-named text from want end to i tok b l n q w =
+    is-name tok ≡ true → word-of tok ≡ take (to - from) (drop from text) → Names text from want end (to + 1) tok
+named text from want end to i tok b l n q t w =
     let k : to < length text = omega (arith, b .within) in
     let e : to + 1 - 1 ≡ to = omega arith in
     let r : take (to - from) (drop from text) ≡ want = b .reads ∙ take-all i want l in
     record {
+      name = t;
       part = rw e w;
       same = w ∙ r;
       place = omega (arith, b .place, b .short);

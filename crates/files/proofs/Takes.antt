@@ -12,7 +12,7 @@ use Rattle.files.specs.declared.part.Part.{Part}
 use Rattle.files.specs.declared.part.Part.the-variants.{Nothing, Minus, Natural, Negative}
 use Rattle.files.specs.declared.token.Token.{Token}
 use Rattle.files.specs.Words.{word, worth, Allowed, InRange, IsNatural, Longest}
-use Rattle.files.specs.Tokens.{word-of, value-of, Took}
+use Rattle.files.specs.Tokens.{word-of, value-of, Took, is-name}
 
 worth-word : (p : Part) (z : ℤ) → InRange p → worth p ≡ Some z → word p ≡ signed z
 worth-word Nothing z r e = let q : _≡_ {A = ℕ} 0 1 = cc in absurd (omega arith)
@@ -31,10 +31,11 @@ worth-natural (Negative n) z a r e = let q : _≡_ {A = ℕ} 0 1 = cc in absurd 
 
 -- `z` is the value that the scan gives: a call may have it by its bits
 pub took : (text : List ℕ) (at : ℕ) (sign : Bool) (end to : ℕ) (part : Part) (z : ℤ) (tok : Token) → Longest text at sign to part → worth part ≡ Some z → value-of tok ≡ z →
-    (to ≡ length text → ⊥) → getD text to 0 ≡ end → word-of tok ≡ take (to - at) (drop at text) → Took text at sign end (to + 1) tok
-took text at sign end to part z tok l e v n q b =
+    (to ≡ length text → ⊥) → getD text to 0 ≡ end → is-name tok ≡ false → word-of tok ≡ take (to - at) (drop at text) → Took text at sign end (to + 1) tok
+took text at sign end to part z tok l e v n q t b =
     let k : to + 1 - 1 ≡ to = omega arith in
     record {
+      number = t;
       part = rw k b;
       reads = b ∙ (l .reading .reads ∙ (worth-word part z (l .reading .range) e ∙ ap signed (sym v)));
       natural = λ s. subst IsNatural (sym v) (worth-natural part z (subst (λ (x : Bool). Allowed x part) s (l .reading .allowed)) (l .reading .range) e);

@@ -1,12 +1,13 @@
 -- What the reader says of a name.
 use mathlib.Core.Path.{_≡_}
+use mathlib.Core.Bool.{true}
 use mathlib.Core.List.{List, [], _∷_, _++_}
 use Prim.Native.Nat.{ℕ, _+_, _-_, _<_, _≤_}
 use lib.ListN.{length, getD, take, drop}
 use Rattle.std.specs.declared.result.Result.{Result}
 use Rattle.std.specs.declared.result.Result.the-variants.{Ok, Err}
 use Rattle.files.specs.declared.token.Token.{Token}
-use Rattle.files.specs.Tokens.{word-of}
+use Rattle.files.specs.Tokens.{word-of, is-name}
 
 -- the first i bytes of the name stand in the text from `from` up to `to`
 pub record Begun (text : List ℕ) (from : ℕ) (want : List ℕ) (to i : ℕ) : Type 0 where
@@ -15,8 +16,9 @@ pub record Begun (text : List ℕ) (from : ℕ) (want : List ℕ) (to i : ℕ) :
   pub short : i ≤ length want
   pub reads : take (to - from) (drop from text) ≡ take i want
 
--- the token's word is the part of the text from the place `at` up to the byte `end` before `to`, and is the name
+-- the token is a name; its word is the part of the text from the place `at` up to the byte `end` before `to`, and is the name wanted
 pub record Names (text : List ℕ) (at : ℕ) (want : List ℕ) (end to : ℕ) (tok : Token) : Type 0 where
+  pub name : is-name tok ≡ true
   pub part : word-of tok ≡ take (to - 1 - at) (drop at text)
   pub same : word-of tok ≡ want
   pub place : to ≡ at + length want + 1

@@ -1,6 +1,6 @@
 -- What the reader says of a number.
 use mathlib.Core.Path.{_≡_}
-use mathlib.Core.Bool.{Bool, false}
+use mathlib.Core.Bool.{Bool, true, false}
 use mathlib.Core.List.{List}
 use Prim.Native.Nat.{ℕ, _-_, _<_, _≤_}
 use lib.IntN.{ℤ, pos, natAbs}
@@ -27,8 +27,13 @@ abbrev pub size-of : Token → ℕ
 size-of (T.Name w) = 0
 size-of (T.Number w z) = natAbs z
 
--- the token's word is the part of the text from the place `at` up to the byte `end` before `to`, and writes the token's number
+abbrev pub is-name : Token → Bool
+is-name (T.Name w) = true
+is-name (T.Number w z) = false
+
+-- the token is a number; its word is the part of the text from the place `at` up to the byte `end` before `to`, and writes that number
 pub record Took (text : List ℕ) (at : ℕ) (sign : Bool) (end to : ℕ) (tok : Token) : Type 0 where
+  pub number : is-name tok ≡ false
   pub part : word-of tok ≡ take (to - 1 - at) (drop at text)
   pub reads : word-of tok ≡ signed (value-of tok)
   pub natural : sign ≡ false → IsNatural (value-of tok)

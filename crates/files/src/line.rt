@@ -5,12 +5,16 @@ use crate::read::Cell;
 use crate::reader::Reader;
 use crate::row::Row;
 
-// Passes the line of the names of a term's values, which are always the same and read as one.
+// Passes the line of the names of a term's values.
 pub(crate) fn term_names(reader: &mut Reader) -> Result<(), usize>
     ensures kept { λ _. ⌜ now (now (reader .exit) .text) ≡ now (now (reader .entry) .text) ⌝ }
     ensures line { λ r. ⌜ Headed (now (now (reader .entry) .text)) (now (reader .entry) .at) names (now (reader .exit) .at) r ⌝ }
 {
-    let _names = reader.name(b"a b c num den", b'\n')?;
+    let _a = reader.name(b"a", b' ')?;
+    let _b = reader.name(b"b", b' ')?;
+    let _c = reader.name(b"c", b' ')?;
+    let _num = reader.name(b"num", b' ')?;
+    let _den = reader.name(b"den", b'\n')?;
     Ok(())
 }
 
@@ -32,7 +36,9 @@ pub(crate) fn cell_names(reader: &mut Reader) -> Result<(), usize>
     ensures kept { λ _. ⌜ now (now (reader .exit) .text) ≡ now (now (reader .entry) .text) ⌝ }
     ensures line { λ r. ⌜ Headed (now (now (reader .entry) .text)) (now (reader .entry) .at) cell-names (now (reader .exit) .at) r ⌝ }
 {
-    let _names = reader.name(b"d knum kden", b'\n')?;
+    let _d = reader.name(b"d", b' ')?;
+    let _knum = reader.name(b"knum", b' ')?;
+    let _kden = reader.name(b"kden", b'\n')?;
     Ok(())
 }
 

@@ -1,4 +1,4 @@
-// The values of one line: the place (a, b, c) of a term and its coefficient num / den.
+// The values of one line: the exponents a, b and c of a term, and its coefficient num / den.
 #[derive(Clone, Copy)]
 pub struct Row {
     pub a: u64,

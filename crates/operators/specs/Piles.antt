@@ -7,7 +7,7 @@ use Rattle.kinds.specs.declared.fault.Fault.{Fault}
 use Rattle.kinds.specs.declared.fault.Question.{Question}
 use Rattle.kinds.specs.declared.fault.Question.the-variants.{Dimension}
 use Rattle.kinds.specs.Faults.{fault, deepened}
-use Rattle.tables.specs.declared.dimension.Dimension.{Dimension as Space}
+use Rattle.tables.specs.declared.dimension.Dimension.{Dimension as Ambient}
 use Rattle.tables.specs.Dimensions.{dimension-of}
 
 -- the first refusal
@@ -25,7 +25,7 @@ no-if true q = Some (fault q 0 0)
 no-if false q = None
 
 -- whether the dimension of an operator that is no layer is neither 2 nor 3
-abbrev pub unplaced : Option Space → Option Fault
+abbrev pub unplaced : Option Ambient → Option Fault
 unplaced None = Some (fault Dimension 0 0)
 unplaced (Some _) = None
 

@@ -2,6 +2,7 @@ ghost use mathlib.Core.Bool.{true};
 ghost use mathlib.Core.Path.{_≡_};
 ghost use Prim.Native.Nat.{_<_};
 ghost use Rattle.std.specs.Slices.{found};
+ghost use Rattle.tables.specs.declared.dimension.Dimension.the-variants.{Plane, Space};
 ghost use Rattle.tables.specs.Dimensions.{size-of};
 ghost use Rattle.tables.specs.Places.{monomial, exponents, exponent-of, fits, placed, next-of, Alone};
 use crate::dimension::Dimension;
@@ -78,44 +79,52 @@ impl Monomial {
     pub fn next(self, dimension: Dimension) -> Monomial
         ensures { λ r. ⌜ (fits dimension self ≡ true → r ≡ next-of dimension self) ⌝ }
     {
-        let Monomial { a, b, c } = self;
         match dimension {
-            Dimension::Plane => {
-                if a > 0 {
-                    Monomial {
-                        a: a - 1,
-                        b: b.saturating_add(1),
-                        c: 0,
-                    }
-                } else {
-                    Monomial {
-                        a: b.saturating_add(1),
-                        b: 0,
-                        c: 0,
-                    }
-                }
-            }
-            Dimension::Space => {
-                if b > 0 {
-                    Monomial {
-                        a,
-                        b: b - 1,
-                        c: c.saturating_add(1),
-                    }
-                } else if a > 0 {
-                    Monomial {
-                        a: a - 1,
-                        b: c.saturating_add(1),
-                        c: 0,
-                    }
-                } else {
-                    Monomial {
-                        a: c.saturating_add(1),
-                        b: 0,
-                        c: 0,
-                    }
-                }
-            }
+            Dimension::Plane => self.next_of_plane(),
+            Dimension::Space => self.next_of_space(),
+        }
+    }
+
+    fn next_of_plane(self) -> Monomial
+        ensures { λ r. ⌜ (fits Plane self ≡ true → r ≡ next-of Plane self) ⌝ }
+    {
+        let after = self.b.saturating_add(1);
+        if self.a > 0 {
+            return Monomial {
+                a: self.a - 1,
+                b: after,
+                c: 0,
+            };
+        }
+        Monomial {
+            a: after,
+            b: 0,
+            c: 0,
+        }
+    }
+
+    fn next_of_space(self) -> Monomial
+        ensures { λ r. ⌜ (fits Space self ≡ true → r ≡ next-of Space self) ⌝ }
+    {
+        let after = self.c.saturating_add(1);
+        if self.b > 0 {
+            return Monomial {
+                a: self.a,
+                b: self.b - 1,
+                c: after,
+            };
+        }
+        if self.a > 0 {
+            return Monomial {
+                a: self.a - 1,
+                b: after,
+                c: 0,
+            };
+        }
+        Monomial {
+            a: after,
+            b: 0,
+            c: 0,
         }
     }
 

@@ -1,6 +1,9 @@
 ghost use mathlib.Core.Path.{_≡_};
-ghost use Prim.Native.Nat.{_<_};
+ghost use Prim.Native.Nat.{ℕ, _<_, _≤_};
 ghost use lib.ListN.{length};
+ghost use Rattle.std.specs.declared.option.Option.the-variants.{Some};
+ghost use Rattle.std.specs.declared.result.Result.the-variants.{Err};
+ghost use Rattle.kinds.specs.declared.fault.Fault.{Fault as Refused};
 ghost use Rattle.tables.specs.Dimensions.{size-of};
 ghost use Rattle.tables.specs.Outcomes.{Told};
 ghost use Rattle.tables.specs.Steps.{Past, Short};
@@ -38,6 +41,7 @@ fn add_term<K: Kind>(
     table: &mut [K::Value],
 ) -> Result<(), Fault>
     requires { ⌜ place < length (now table) ⌝ }
+    ensures { λ _. ⌜ ((n : ℕ) → place < n → Past n (now (table .entry)) (now (table .exit))) ⌝ }
 {
     match k.sum(table[place], value) {
         Ok(v) => {
@@ -48,7 +52,38 @@ fn add_term<K: Kind>(
     }
 }
 
-// Adds the terms to a table, in their order.
+// Adds one term at its place, where it has one.
+fn add_placed<K: Kind>(
+    k: &K,
+    dimension: Dimension,
+    term: &Term<K::Value>,
+    table: &mut [K::Value],
+) -> Result<(), Fault>
+    requires { ⌜ size-of dimension ≤ length (now table) ⌝ }
+    ensures { λ _. ⌜ Past (size-of dimension) (now (table .entry)) (now (table .exit)) ⌝ }
+{
+    match term.monomial.place(dimension) {
+        Some(place) => add_term(k, place, term.value, table),
+        None => Ok(()),
+    }
+}
+
+fn add_each<K: Kind>(
+    k: &K,
+    dimension: Dimension,
+    terms: &[Term<K::Value>],
+    table: &mut [K::Value],
+) -> Result<(), Fault>
+    requires { ⌜ size-of dimension ≤ length (now table) ⌝ }
+    ensures { λ _. ⌜ Past (size-of dimension) (now (table .entry)) (now (table .exit)) ⌝ }
+{
+    for term in terms {
+        add_placed(k, dimension, term, table)?;
+    }
+    Ok(())
+}
+
+// Adds the terms to a table, in their order. Where one has no place, none is added.
 pub fn add_terms<K: Kind>(
     k: &K,
     dimension: Dimension,
@@ -56,15 +91,12 @@ pub fn add_terms<K: Kind>(
     table: &mut [K::Value],
 ) -> Result<(), Fault>
     ensures short { λ r. ⌜ Short (length (now (table .entry))) (size-of dimension) (now (table .entry)) (now (table .exit)) r ⌝ }
+    ensures unplaced { λ r. ⌜ ((e : Refused) → size-of dimension ≤ length (now (table .entry)) → misplaced dimension 0 (now (terms .entry)) ≡ Some e → (r ≡ Err e) × (now (table .exit) ≡ now (table .entry))) ⌝ }
+    ensures past { λ _. ⌜ Past (size-of dimension) (now (table .entry)) (now (table .exit)) ⌝ }
 {
     if table.len() < dimension.size() {
         return Err(Fault::no(Question::Tables, 0));
     }
-    for i in 0..terms.len() {
-        match terms[i].monomial.place(dimension) {
-            Some(place) => add_term(k, place, terms[i].value, table)?,
-            None => return Err(Fault::no(Question::Monomial, i as u64)),
-        }
-    }
-    Ok(())
+    ask_monomials(dimension, terms)?;
+    add_each(k, dimension, terms, table)
 }

@@ -24,4 +24,4 @@ returns-then-to-text-2 c =
     }
 
 pub returns : need.returns
-returns c = record { kept = refl; read = named _ _ _ _ _ _ _ (c .loop-b .inv) (c .loop-b-test .left) (c .if-to-text-2 .left) (c .if-text-to-2 .left) refl }
+returns c = record { kept = refl; read = named _ _ _ _ _ _ _ (c .loop-b .inv) (c .loop-b-test .left) (c .if-to-text-2 .left) (c .if-text-to-2 .left) refl refl }

@@ -11,5 +11,5 @@ returns-in-Some c =
     let f : SFits w64 (c .in-Some .value) = search needs in
     record {
       kept = refl;
-      read = took _ _ _ _ _ _ (c .in-Some .value) _ (c .longest-to .ensures) (sym (c .in-Some .ensures tt)) (toZ-ofZ w64 (c .in-Some .value) f) (c .if-to-text .left) (c .if-text-to .left) refl;
+      read = took _ _ _ _ _ _ (c .in-Some .value) _ (c .longest-to .ensures) (sym (c .in-Some .ensures tt)) (toZ-ofZ w64 (c .in-Some .value) f) (c .if-to-text .left) (c .if-text-to .left) refl refl;
     }
