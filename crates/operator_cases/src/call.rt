@@ -10,7 +10,11 @@ fn filler<K: Raw>(k: &K, place: usize) -> K::Value {
     k.made((place % 97) as i64 + 1, 101)
 }
 
-pub fn filled<K: Raw>(heap: Global, k: &K, count: usize) -> Result<Vec<K::Value>, AllocError> {
+pub(crate) fn filled<K: Raw>(
+    heap: Global,
+    k: &K,
+    count: usize,
+) -> Result<Vec<K::Value>, AllocError> {
     let mut all = Vec::new(heap);
     for place in 0..count {
         all.push(filler(k, place))?;
@@ -77,7 +81,7 @@ fn refused<K: Raw>(
 }
 
 // Solves or applies, and tells the outcome and what the call left in its memory.
-pub fn told<K: Raw, O: Solvable<K>>(
+pub(crate) fn told<K: Raw, O: Solvable<K>>(
     heap: Global,
     k: &K,
     o: &O,

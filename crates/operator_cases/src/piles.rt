@@ -122,7 +122,7 @@ fn worked<K: Raw, O: Solvable<K>>(
     )
 }
 
-pub fn run<K: Raw>(heap: Global, k: &K, line: &[i64]) -> Result<String, AllocError> {
+pub(crate) fn run<K: Raw>(heap: Global, k: &K, line: &[i64]) -> Result<String, AllocError> {
     match at(line, 1) {
         1 => worked(heap, k, &constant(k, line, FIRST), line, SECOND),
         2 => worked(heap, k, &laplacian(k, line, FIRST), line, SECOND),
