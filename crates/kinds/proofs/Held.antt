@@ -27,8 +27,8 @@ num_outside n (pos d) p e h =
 num_outside n (negsuc d) p e h = absurd p.lt
 
 -- what is owed where a Fraction is made
-pub parts : (n d : ℤ) → Sound n d → (pos 0 <ℤ d) × ((nat_abs d ≤ limit) × ((nat_abs n ≤ limit) × ((gcd (nat_abs n) (nat_abs d) ≡ 1) × Unit {0})))
-parts n d s = (some_of n d s, (s.small_den, (s.small_num, (s.coprime, tt))))
+pub parts : (n d : ℤ) → Sound n d → record { some : pos 0 <ℤ d; low : nat_abs d ≤ limit; small : nat_abs n ≤ limit; coprime : gcd (nat_abs n) (nat_abs d) ≡ 1 }
+parts n d s = record { some = some_of n d s; low = s.small_den; small = s.small_num; coprime = s.coprime }
 
 -- ---- the test
 

@@ -1,6 +1,8 @@
 //! Kinds of coefficients: fractions within 31 bits and residues, as exact models of commutative rings.
 //! A kind's calls answer the ring's own result in its one representation, or say why not.
 
+#![tactic(auto)]
+
 mod euclid;
 pub mod fault;
 pub mod fraction;

@@ -10,16 +10,16 @@ use Rattle.monomials.proofs.Placing.{plane_is, space_is, below, apart, placed_fi
 use Rattle.monomials.proofs.Numbers.{tri, tet, tri_gap, tet_gap, tri_13, tet_13, tri_suc, tet_suc, tri_zero}
 
 -- the place, without a bound on the degree
-abbrev spot : Dimension → Monomial → ℕ
+abbrev pub spot : Dimension → Monomial → ℕ
 spot Plane m = tri (exponents m) + m.b
 spot Space m = tet (exponents m) + (tri (m.b + m.c) + m.c)
 
-abbrev flat : Dimension → Monomial → Type 0
+abbrev pub flat : Dimension → Monomial → Type 0
 flat Plane m = m.c ≡ 0
 flat Space m = Unit {0}
 
 -- m stands at place p
-record Walk (d : Dimension) (p : ℕ) (m : Monomial) : Type 0 where
+pub record Walk (d : Dimension) (p : ℕ) (m : Monomial) : Type 0 where
   pub at : spot d m ≡ p
   pub level : flat d m
 
@@ -29,7 +29,7 @@ tri_same m n e = ap tri e
 tet_same : (m n : ℕ) → m ≡ n → tet m ≡ tet n
 tet_same m n e = ap tet e
 
-walk_start : (d : Dimension) → Walk d 0 (monomial 0 0 0)
+pub walk_start : (d : Dimension) → Walk d 0 (monomial 0 0 0)
 unfolding tri tet
 walk_start Plane = record { at = refl; level = refl }
 walk_start Space = record { at = refl; level = tt }
@@ -71,11 +71,11 @@ space_low m h =
     (λ g. ⊎_elim (λ (l : exponents m < 13). omega arith) (λ (l : 13 < exponents m). absurd (omega (arith, tet_gap 13 (exponents m) l, tet_13))) g)
     (cases_order (exponents m) 13)
 
-walk_low : (d : Dimension) (p : ℕ) (m : Monomial) → Walk d p m → p < size_of d → exponents m ≤ 12
+pub walk_low : (d : Dimension) (p : ℕ) (m : Monomial) → Walk d p m → p < size_of d → exponents m ≤ 12
 walk_low Plane p m w h = plane_low m (subst (λ q. q < 91) (sym w.at) h)
 walk_low Space p m w h = space_low m (subst (λ q. q < 455) (sym w.at) h)
 
-walk_fits : (d : Dimension) (p : ℕ) (m : Monomial) → Walk d p m → p < size_of d → fits d m ≡ true
+pub walk_fits : (d : Dimension) (p : ℕ) (m : Monomial) → Walk d p m → p < size_of d → fits d m ≡ true
 walk_fits Plane p m w h = and_from _ _ (le-leb (exponents m) 12 (walk_low Plane p m w h)) (eq-eqb m.c 0 w.level)
 walk_fits Space p m w h = le-leb (exponents m) 12 (walk_low Space p m w h)
 
@@ -116,3 +116,6 @@ at_next d p m n e h s = s (rw e (at_fits d p h)) ∙ ap (next_of d) e ∙ ap (mo
 pub at_start : (d : Dimension) → monomial 0 0 0 ≡ monomial_at d 0
 unfolding monomial_at
 at_start d = refl
+
+pub walk_on : (d : Dimension) (p : ℕ) (m n : Monomial) → Walk d p m → p < size_of d → (fits d m ≡ true → n ≡ next_of d m) → Walk d (p + 1) n
+walk_on d p m n w h e = subst (Walk d (p + 1)) (sym (e (walk_fits d p m w h))) (next_walk d p m w)

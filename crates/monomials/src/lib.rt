@@ -1,3 +1,5 @@
+#![tactic(auto)]
+
 pub mod dimension;
 pub mod monomial;
 pub mod places;

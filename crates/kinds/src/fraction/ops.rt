@@ -183,18 +183,19 @@ impl Fraction {
     pub(crate) fn inverse(self) -> Result<Fraction, Fault>
         ensures { Inverted (value self) result }
     {
-        let num = self.num;
-        let den = self.den;
-        if num == 0 {
+        if self.num == 0 {
             return Err(Fault::no(Question::Divisor, 0));
         }
         // the parts have no common divisor, so only the sign can be in the wrong place
-        if num < 0 {
+        if self.num < 0 {
             return Ok(Fraction {
-                num: -den,
-                den: -num,
+                num: -self.den,
+                den: -self.num,
             });
         }
-        Ok(Fraction { num: den, den: num })
+        Ok(Fraction {
+            num: self.den,
+            den: self.num,
+        })
     }
 }

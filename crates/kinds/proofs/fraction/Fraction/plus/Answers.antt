@@ -5,25 +5,25 @@ use Rattle.kinds.proofs.Wholes.{plus_left, plus_right, plus_over}
 use Rattle.kinds.proofs.fraction.Fraction.plus.Goals as goal
 
 pub returns-then-other-eq1 : goal.returns-then-other-eq1
-returns-then-other-eq1 c = plus_right c.args.self c.args.other _ (omega (arith, ints)) c.plus-whole.ensures
+returns-then-other-eq1 c = plus_right c.args.self c.args.other _ (omega (arith, ints)) c.plus_whole.ensures
 
 pub returns-then-self-eq1 : goal.returns-then-self-eq1
-returns-then-self-eq1 c = plus_left c.args.self c.args.other _ (omega (arith, ints)) c.plus-whole-then-self-eq1.ensures
+returns-then-self-eq1 c = plus_left c.args.self c.args.other _ (omega (arith, ints)) c.plus_whole-then-self-eq1.ensures
 
 pub returns-then-self-other : goal.returns-then-self-other
 returns-then-self-other c = plus_over c.args.self c.args.other _ (omega (arith, ints)) c.new.ensures
 
-pub overflow-mul-self : goal.overflow-mul-self
-overflow-mul-self c = search (rules, fits_product)
+pub overflow_mul-self : goal.overflow_mul-self
+overflow_mul-self c = search (rules, fits_product)
 
-pub overflow-mul-other : goal.overflow-mul-other
-overflow-mul-other c = search (rules, fits_product)
+pub overflow_mul-other : goal.overflow_mul-other
+overflow_mul-other c = search (rules, fits_product)
 
-pub overflow-add-self-2 : goal.overflow-add-self-2
-overflow-add-self-2 c = search (rules, fits_sum)
+pub overflow_add-self-2 : goal.overflow_add-self-2
+overflow_add-self-2 c = search (rules, fits_sum)
 
-pub overflow-mul-self-2 : goal.overflow-mul-self-2
-overflow-mul-self-2 c = search (rules, fits_product)
+pub overflow_mul-self-2 : goal.overflow_mul-self-2
+overflow_mul-self-2 c = search (rules, fits_product)
 
 pub returns : goal.returns
 returns c = sum_told c.args.self c.args.other c.new-2.result c.new-2.ensures

@@ -10,18 +10,18 @@ use Rattle.kinds.proofs.Held.{parts}
 use Rattle.kinds.proofs.Bounds.{whole_sound}
 use Rattle.kinds.proofs.fraction.Fraction.read.Goals as goal
 
-pub invariant-of-result : goal.invariant-of-result
-invariant-of-result c = parts _ _ (whole_sound 0 (omega arith))
+pub invariant_of-result : goal.invariant_of-result
+invariant_of-result c = parts _ _ (whole_sound 0 (omega arith))
 
-pub invariant-of-result-2 : goal.invariant-of-result-2
-invariant-of-result-2 c = parts _ _ (sound_out _ _ (sym c.if-not-is-sound.ensures))
+pub invariant_of-result-2 : goal.invariant_of-result-2
+invariant_of-result-2 c = parts _ _ (sound_out _ _ (sym c.if-not-is_sound.ensures))
 
-pub returns-then-not-is-sound : goal.returns-then-not-is-sound
+pub returns-then-not-is_sound : goal.returns-then-not-is_sound
 unfolding value mean
-returns-then-not-is-sound c =
+returns-then-not-is_sound c =
     let f : SFits w64 c.args.p.num = search rules in
     let g : SFits w64 c.args.p.den = search rules in
-    zero_ratio ∙ sym (cond-false _ _ _ (sym (c.if-not-is-sound.ensures ∙ ap₂ sound (to_z-of_z w64 _ f) (to_z-of_z w64 _ g))))
+    zero_ratio ∙ sym (cond-false _ _ _ (sym (c.if-not-is_sound.ensures ∙ ap₂ sound (to_z-of_z w64 _ f) (to_z-of_z w64 _ g))))
 
 pub returns : goal.returns
 unfolding value mean
@@ -29,4 +29,4 @@ returns c =
     let f : SFits w64 c.args.p.num = search rules in
     let g : SFits w64 c.args.p.den = search rules in
     let e = ap₂ sound (to_z-of_z w64 _ f) (to_z-of_z w64 _ g) in
-    ap₂ ratio (to_z-of_z w64 _ f) (to_z-of_z w64 _ g) ∙ sym (cond-true _ _ _ (sym (c.if-not-is-sound.ensures ∙ e)))
+    ap₂ ratio (to_z-of_z w64 _ f) (to_z-of_z w64 _ g) ∙ sym (cond-true _ _ _ (sym (c.if-not-is_sound.ensures ∙ e)))

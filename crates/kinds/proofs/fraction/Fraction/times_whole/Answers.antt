@@ -10,8 +10,8 @@ returns-then-whole-eq0 c = times_zero c.args.self c.args.whole _ (omega (arith, 
 pub returns-then-whole-eq1 : goal.returns-then-whole-eq1
 returns-then-whole-eq1 c = times_one c.args.self c.args.whole (omega (arith, ints))
 
-pub overflow-mul-self : goal.overflow-mul-self
-overflow-mul-self c = search (rules, fits_product)
+pub overflow_mul-self : goal.overflow_mul-self
+overflow_mul-self c = search (rules, fits_product)
 
 pub returns : goal.returns
 returns c = scale_told c.args.self c.args.whole c.requires c.new.result c.new.ensures

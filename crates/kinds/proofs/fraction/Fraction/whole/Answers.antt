@@ -7,8 +7,8 @@ use Rattle.kinds.proofs.Held.{parts}
 use Rattle.kinds.proofs.Bounds.{whole_sound}
 use Rattle.kinds.proofs.fraction.Fraction.whole.Goals as goal
 
-pub invariant-of-result : goal.invariant-of-result
-invariant-of-result c = parts _ _ (subst (λ t. Sound t (pos 1)) (sym (to_z_pos w64 c.args.n (omega arith))) (whole_sound c.args.n (omega arith)))
+pub invariant_of-result : goal.invariant_of-result
+invariant_of-result c = parts _ _ (subst (λ t. Sound t (pos 1)) (sym (to_z_pos w64 c.args.n (omega arith))) (whole_sound c.args.n (omega arith)))
 
 pub returns : goal.returns
 unfolding value

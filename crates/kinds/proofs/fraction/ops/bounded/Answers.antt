@@ -6,8 +6,8 @@ use Rattle.kinds.specs.Sound.{sound_inside}
 use Rattle.kinds.proofs.Held.{held, num_outside}
 use Rattle.kinds.proofs.fraction.ops.bounded.Goals as goal
 
-pub returns-then-unsigned-abs-gt-LIMIT : goal.returns-then-unsigned-abs-gt-LIMIT
-returns-then-unsigned-abs-gt-LIMIT c =
+pub returns-then-unsigned_abs-gt-LIMIT : goal.returns-then-unsigned_abs-gt-LIMIT
+returns-then-unsigned_abs-gt-LIMIT c =
     (num_outside c.args.num c.args.den c.requires.0 c.requires.1.1 (omega (arith, ints)), c.no.ensures)
 
 pub returns : goal.returns

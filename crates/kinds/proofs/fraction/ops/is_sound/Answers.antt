@@ -19,7 +19,7 @@ returns-then-d-eq1 c =
 
 pub returns : goal.returns
 returns c =
-    let en = c.unsigned-abs-n.ensures.value ∙ ap nat_abs (to_z-of_z w64 c.args.num c.ranges.num) in
-    let ed = c.unsigned-abs-d.ensures.value ∙ ap nat_abs (to_z-of_z w64 c.args.den c.ranges.den) in
-    ap (λ t. eqb t 1) (c.common-divisor.ensures ∙ ap₂ gcd en ed)
+    let en = c.unsigned_abs-n.ensures.value ∙ ap nat_abs (to_z-of_z w64 c.args.num c.ranges.num) in
+    let ed = c.unsigned_abs-d.ensures.value ∙ ap nat_abs (to_z-of_z w64 c.args.den c.ranges.den) in
+    ap (λ t. eqb t 1) (c.common_divisor.ensures ∙ ap₂ gcd en ed)
     ∙ only_gcd c.args.num c.args.den (sym (omega (arith, ints))) (omega (arith, ints)) (omega (arith, ints))

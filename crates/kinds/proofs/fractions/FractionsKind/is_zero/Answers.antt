@@ -7,4 +7,4 @@ use Rattle.kinds.proofs.fractions.FractionsKind.is_zero.Goals as goal
 
 pub returns : goal.returns
 unfolding zero_test fraction_arith
-returns c = c.is-nothing.ensures ∙ zero_decided (mean c.args.a)
+returns c = c.is_nothing.ensures ∙ zero_decided (mean c.args.a)
