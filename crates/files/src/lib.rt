@@ -1,3 +1,5 @@
+#![tactic(auto)]
+
 pub mod limit;
 mod line;
 mod part;

@@ -1,3 +1,5 @@
+#![tactic(auto)]
+
 pub mod degree;
 pub mod moves;
 pub mod steps;

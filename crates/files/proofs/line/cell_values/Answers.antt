@@ -7,9 +7,9 @@ pub returns : goal.returns
 returns c =
     let f : SFits w64 c.value-knum.result = search rules in
     let g : SFits w64 c.value-kden.result = search rules in
-    let k1 = c.in-ok-number.ensures in
-    let k2 = c.in-ok-number-2.ensures in
-    let k3 = c.in-ok-number-3.ensures in
+    let k1 = c.in_ok-number.ensures in
+    let k2 = c.in_ok-number-2.ensures in
+    let k3 = c.in_ok-number-3.ensures in
     let e2 = to_z-of_z w64 c.value-knum.result f ∙ c.value-knum.ensures in
     let e3 = to_z-of_z w64 c.value-kden.result g ∙ c.value-kden.ensures in
     let l1 = passed k1.kept (stands_size c.size-d.result c.size-d.ensures k1.read) in

@@ -5,11 +5,11 @@ use Rattle.files.proofs.line.term_names.Goals as goal
 pub returns : goal.returns
 unfolding names
 returns c =
-    let k1 = c.in-ok--a.ensures in
-    let k2 = c.in-ok--b.ensures in
-    let k3 = c.in-ok--c.ensures in
-    let k4 = c.in-ok--num.ensures in
-    let k5 = c.in-ok--den.ensures in
+    let k1 = c.in_ok-_a.ensures in
+    let k2 = c.in_ok-_b.ensures in
+    let k3 = c.in_ok-_c.ensures in
+    let k4 = c.in_ok-_num.ensures in
+    let k5 = c.in_ok-_den.ensures in
     let l1 = passed k1.kept (stands_name k1.read) in
     let l2 = passed_then l1 k2.kept (stands_name k2.read) in
     let l3 = passed_then l2 k3.kept (stands_name k3.read) in

@@ -7,11 +7,11 @@ pub returns : goal.returns
 returns c =
     let f : SFits w64 c.value-num.result = search rules in
     let g : SFits w64 c.value-den.result = search rules in
-    let k1 = c.in-ok-number.ensures in
-    let k2 = c.in-ok-number-2.ensures in
-    let k3 = c.in-ok-number-3.ensures in
-    let k4 = c.in-ok-number-4.ensures in
-    let k5 = c.in-ok-number-5.ensures in
+    let k1 = c.in_ok-number.ensures in
+    let k2 = c.in_ok-number-2.ensures in
+    let k3 = c.in_ok-number-3.ensures in
+    let k4 = c.in_ok-number-4.ensures in
+    let k5 = c.in_ok-number-5.ensures in
     let e4 = to_z-of_z w64 c.value-num.result f ∙ c.value-num.ensures in
     let e5 = to_z-of_z w64 c.value-den.result g ∙ c.value-den.ensures in
     let l1 = passed k1.kept (stands_size c.size-a.result c.size-a.ensures k1.read) in
