@@ -1,3 +1,5 @@
+#![tactic(auto)]
+
 use cells::answer::answer;
 use std::alloc::{AllocError, Global};
 use std::io;

@@ -1,5 +1,7 @@
 //! The calls of the two kinds on listed cases, most of them at the limits of their range.
 
+#![tactic(auto)]
+
 ghost use Rattle.std.specs.Prelude.{◌≡◌, Ok, Err, MatchResult};
 
 use kinds::fault::Fault;

@@ -1,3 +1,5 @@
+#![tactic(auto)]
+
 use anyhow::{Context, anyhow};
 use kinds::fractions::Fractions;
 use kinds::kind::Kind;

@@ -1,3 +1,5 @@
+#![tactic(auto)]
+
 pub mod laplacian;
 pub mod matrix;
 mod quadratic;

@@ -1,3 +1,5 @@
+#![tactic(auto)]
+
 pub mod constant;
 pub mod operator;
 pub mod questions;

@@ -1,3 +1,5 @@
+#![tactic(auto)]
+
 use cells::answer::{MOST_BYTES, answer};
 use std::io;
 use std::io::{Read, Write};

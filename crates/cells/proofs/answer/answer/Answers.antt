@@ -1,14 +1,14 @@
 use Rattle.std.proofs.lemmas.Result.{err_from_is_err_and}
 use Rattle.cells.proofs.answer.answer.Goals as goal
 
-pub returns-in-err-terms : goal.returns-in-err-terms
-returns-in-err-terms c = let p = err_from_is_err_and c.from-residual-in-err-terms.result c.from-residual-in-err-terms.ensures.1 in rw p.1 tt
+pub returns-in_err-terms : goal.returns-in_err-terms
+returns-in_err-terms c = let p = err_from_is_err_and c.from_residual-in_err-terms.result c.from_residual-in_err-terms.ensures.1 in rw p.1 tt
 
-pub returns-in-err-source : goal.returns-in-err-source
-returns-in-err-source c = let p = err_from_is_err_and c.from-residual-in-err-source.result c.from-residual-in-err-source.ensures.1 in rw p.1 tt
+pub returns-in_err-source : goal.returns-in_err-source
+returns-in_err-source c = let p = err_from_is_err_and c.from_residual-in_err-source.result c.from_residual-in_err-source.ensures.1 in rw p.1 tt
 
-pub returns-in-err-target : goal.returns-in-err-target
-returns-in-err-target c = let p = err_from_is_err_and c.from-residual-in-err-target.result c.from-residual-in-err-target.ensures.1 in rw p.1 tt
+pub returns-in_err-target : goal.returns-in_err-target
+returns-in_err-target c = let p = err_from_is_err_and c.from_residual-in_err-target.result c.from_residual-in_err-target.ensures.1 in rw p.1 tt
 
-pub returns-in-err-work : goal.returns-in-err-work
-returns-in-err-work c = let p = err_from_is_err_and c.from-residual-in-err-work.result c.from-residual-in-err-work.ensures.1 in rw p.1 tt
+pub returns-in_err-work : goal.returns-in_err-work
+returns-in_err-work c = let p = err_from_is_err_and c.from_residual-in_err-work.result c.from_residual-in_err-work.ensures.1 in rw p.1 tt

@@ -11,5 +11,5 @@ small (suc (suc (suc (suc zero)))) n d p q r = omega arith
 small (suc (suc (suc (suc (suc zero))))) n d p q r = omega arith
 small (suc (suc (suc (suc (suc (suc l)))))) n d p q r = absurd (omega arith)
 
-pub overflow-cast-result-2 : goal.overflow-cast-result-2
-overflow-cast-result-2 c = omega (arith, small c.args.l c.args.n c.args.d (omega arith) (omega arith) (omega arith))
+pub overflow_cast-result-2 : goal.overflow_cast-result-2
+overflow_cast-result-2 c = omega (arith, small c.args.l c.args.n c.args.d (omega arith) (omega arith) (omega arith))

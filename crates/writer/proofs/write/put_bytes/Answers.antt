@@ -6,10 +6,10 @@ pub loop-b-init : goal.loop-b-init
 loop-b-init c = put_none _ _ (search rules)
 
 pub loop-b-preserved : goal.loop-b-preserved
-loop-b-preserved c = put_more _ _ c.loop-b.invariant c.loop-b-test.true c.in-ok-to.ensures
+loop-b-preserved c = put_more _ _ c.loop-b.invariant c.loop-b-test.true c.in_ok-to.ensures
 
 pub returns : goal.returns
 returns c = put_all _ _ c.loop-b.invariant c.loop-b-test.false
 
-pub returns-in-err-to : goal.returns-in-err-to
-returns-in-err-to c = rw c.from-residual.ensures (put_stuck _ _ c.loop-b.invariant c.loop-b-test.true c.in-err-to.ensures)
+pub returns-in_err-to : goal.returns-in_err-to
+returns-in_err-to c = rw c.from_residual.ensures (put_stuck _ _ c.loop-b.invariant c.loop-b-test.true c.in_err-to.ensures)

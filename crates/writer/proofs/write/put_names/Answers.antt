@@ -3,4 +3,4 @@ use Rattle.writer.proofs.write.put_names.Goals as goal
 
 pub returns : goal.returns
 unfolding names
-returns c = c.put-bytes.ensures
+returns c = c.put_bytes.ensures

@@ -5,5 +5,5 @@ use Rattle.writer.proofs.write.put_signed.Goals as goal
 
 pub returns : goal.returns
 returns c =
-    let n : c.unsigned-abs.result ≡ nat_abs c.args.z = c.unsigned-abs.ensures.value ∙ ap nat_abs (to_z-of_z w64 c.args.z c.ranges.z) in
-    wrote_is _ _ _ _ c.in-ok-to.ensures c.put-natural-2.ensures (ap (λ k. 45 ∷ decimal k) n ∙ sym (signed_minus c.args.z (search rules)))
+    let n : c.unsigned_abs.result ≡ nat_abs c.args.z = c.unsigned_abs.ensures.value ∙ ap nat_abs (to_z-of_z w64 c.args.z c.ranges.z) in
+    wrote_is _ _ _ _ c.in_ok-to.ensures c.put_natural-2.ensures (ap (λ k. 45 ∷ decimal k) n ∙ sym (signed_minus c.args.z (search rules)))
