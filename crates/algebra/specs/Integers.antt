@@ -8,8 +8,7 @@ use Rattle.std.proofs.Math.Nat.{div-mul_cancel, eq_of_mul-eq-mul_right}
 use lib.IntN.{suc_ℤ, pred_ℤ, ℤ_set, ℤ_discrete, +ℤ_assoc, +ℤ_comm, +ℤ_idr, +ℤ_idl, +ℤ_invr, *ℤ-one, *ℤ_comm, zero-*ℤ, suc_ℤ-*ℤ, pred_ℤ-*ℤ, +ℤ-suc_ℤ, +ℤ-pred_ℤ, neg_ℤ-neg_ℤ, pos-ne-negsuc}
 use borrow.Author.Differences.{up, down, same_out, same_in, product_is}
 use Rattle.algebra.specs.Ring.{Ring}
-use Rattle.algebra.specs.RingLaws.{nat, nat_zero, nat_one, nat_suc, zero_mul, neg_zero, neg_neg, neg_dist, add_left_comm}
-use Rattle.algebra.specs.Solver.{:1, ◌:+◌, ◌:*◌, :-◌, ◌:-◌, ◌:=◌, solve₁, solve₂, solve₃}
+use Rattle.algebra.specs.Solver.{◌:*◌, ◌:=◌, solve₃}
 
 -- what holds of 0, and goes over to the successor and to the predecessor
 pub ℤ_ind : (P : ℤ → Type 0) → P (pos 0) → ((k : ℤ) → P k → P (suc_ℤ k)) → ((k : ℤ) → P k → P (pred_ℤ k)) → (k : ℤ) → P k

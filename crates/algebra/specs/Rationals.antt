@@ -1,6 +1,6 @@
 -- The rational numbers: fractions in lowest terms, without limit of size.
 use Rattle.std.specs.Prelude.{◌≡◌, ℕ, zero, suc, ◌*◌, ◌/◌, ◌<◌, Bool, true, false, cond, not, ℤ, pos, negsuc, ◌+ℤ◌, ◌*ℤ◌, neg_ℤ, int_div, unsigned_abs, refl}
-use Rattle.std.proofs.Common.{sym, ◌∙◌, ap, ap₂, subst, mul-pos, mul-one, div-one, zero-lt-suc, arith}
+use Rattle.std.proofs.Common.{sym, ◌∙◌, ap, ap₂, subst, mul-pos, div-one, zero-lt-suc, arith}
 use mathlib.Core.HLevel.{is_prop→PathP, hedberg, Discrete}
 use Rattle.std.proofs.Math.Option.{Option, some, none}
 use Rattle.std.specs.Int.{◌∣◌}

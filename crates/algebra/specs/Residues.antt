@@ -1,10 +1,10 @@
 -- The ring of the residues modulo m, for any m from 2 up.
-use Rattle.std.specs.Prelude.{◌≡◌, ℕ, zero, suc, ◌+◌, ◌-◌, ◌*◌, ◌/◌, ◌%◌, ◌<◌, Bool, true, false, ◌↔◌, pos, neg_ℤ, ◌==◌}
+use Rattle.std.specs.Prelude.{◌≡◌, ℕ, zero, suc, ◌+◌, ◌-◌, ◌*◌, ◌/◌, ◌%◌, ◌<◌, Bool, true, false, ◌↔◌, ◌==◌}
 use Rattle.std.proofs.Math.Path.{refl, sym}
 use Rattle.std.proofs.Common.{◌∙◌, ap, ap₂, mod-lt, mod-eq_of_lt, add_assoc, add_comm, mul_assoc, mul_comm, mul-add, add-zero, mul-one, one-add, arith}
 use mathlib.Core.HLevel.{Σ_prop_path, hedberg, Discrete}
 use Rattle.std.proofs.Math.Option.{Option, some, none}
-use Rattle.std.proofs.Math.Nat.{mod-mod, mod-add-mod, add-mod-mod, add-mod, mod_self, zero-mod, mod-add-div'}
+use Rattle.std.proofs.Math.Nat.{mod-add-mod, add-mod-mod, add-mod, mod_self, zero-mod, mod-add-div'}
 use Rattle.std.proofs.Math.Bridge.{le_prop}
 use Rattle.std.proofs.Math.Decide.{ℕ_discrete}
 use Rattle.std.proofs.lemmas.Bool.{eqb-true, eqb-false}

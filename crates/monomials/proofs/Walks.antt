@@ -5,7 +5,7 @@ use Rattle.monomials.specs.declared.dimension.Dimension.{Dimension}
 use Rattle.monomials.specs.declared.dimension.Dimension.TheVariants.{Plane, Space}
 use Rattle.monomials.specs.declared.monomial.Monomial.{Monomial}
 use Rattle.monomials.specs.Dimensions.{size_of}
-use Rattle.monomials.specs.Places.{monomial, exponents, fits, place_of, placed, next_of, monomial_at, Inverse}
+use Rattle.monomials.specs.Places.{monomial, exponents, fits, place_of, next_of, monomial_at, Inverse}
 use Rattle.monomials.proofs.Placing.{plane_is, space_is, below, apart, placed_fits}
 use Rattle.monomials.proofs.Numbers.{tri, tet, tri_gap, tet_gap, tri_13, tet_13, tri_suc, tet_suc, tri_zero}
 

@@ -1,11 +1,11 @@
 -- Bounds on the degree, and the operators that have no kernel for such a bound.
-use Rattle.std.specs.Prelude.{◌≡◌, refl, ℕ, zero, suc, ◌+◌ as ◌+ℕ◌, ◌*◌ as ◌*ℕ◌, ◌-◌, ◌≤◌, ◌<◌}
+use Rattle.std.specs.Prelude.{◌≡◌, refl, ℕ, zero, suc, ◌+◌ as ◌+ℕ◌, ◌-◌, ◌≤◌}
 use Rattle.std.proofs.Common.{sym, ◌∙◌, ap, ap₂, arith}
 use Rattle.std.proofs.Math.Path.{fun_ext}
 use Rattle.algebra.specs.Ring.{Ring}
 use Rattle.algebra.specs.RingLaws.{nat, mul_zero, neg_zero}
-use Rattle.polynomials.specs.Module.{Mod, Lin, left_zero_m, cancel_m, smul_zero, neg_smul}
-use Rattle.polynomials.specs.Series.{Series, x, y, z, ∂x, ∂y, ∂z, E, Hom, euler}
+use Rattle.polynomials.specs.Module.{Mod, cancel_m, smul_zero}
+use Rattle.polynomials.specs.Series.{Series, x, y, z, ∂x, ∂y, ∂z, Hom}
 
 -- in any module: c f + d = 0 gives f = -c⁻¹ d
 module _ {C : Type 0} {R : Ring C} (A : Mod R) where

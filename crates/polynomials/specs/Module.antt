@@ -1,9 +1,9 @@
 -- Modules over a ring, linear maps on one, and series of elements of one.
 use Rattle.std.specs.Prelude.{◌≡◌, refl, ℕ, zero, suc}
-use Rattle.std.proofs.Common.{sym, ◌∙◌, ap, ap₂}
+use Rattle.std.proofs.Common.{sym, ◌∙◌, ap}
 use Rattle.std.proofs.Math.Path.{fun_ext}
 use Rattle.algebra.specs.Ring.{Ring}
-use Rattle.algebra.specs.RingLaws.{nat, nat_zero, nat_one, nat_suc, add_mul, zero_add, mul_left_comm, mul_zero}
+use Rattle.algebra.specs.RingLaws.{nat, nat_one, nat_suc, add_mul}
 
 pub record Mod {C : Type 0} (R : Ring C) : Type 1 where
   pub M : Type 0

@@ -4,7 +4,7 @@ use Rattle.std.proofs.Common.{sym, ◌∙◌, ap, ap₂, arith}
 use Rattle.std.proofs.Math.Path.{fun_ext}
 use Rattle.std.proofs.Math.Decide.{ℕ_discrete, dec_lt}
 use Rattle.algebra.specs.Ring.{Ring}
-use Rattle.algebra.specs.RingLaws.{nat, zero_add}
+use Rattle.algebra.specs.RingLaws.{zero_add}
 use Rattle.polynomials.specs.Module.{Lin, lin_zero}
 use Rattle.polynomials.specs.Series.{Series, Hom}
 use Rattle.polynomials.specs.Degrees.{Under}

@@ -11,7 +11,7 @@ use Rattle.monomials.specs.declared.dimension.Dimension.TheVariants.{Plane, Spac
 use Rattle.monomials.specs.declared.monomial.Axis.{Axis}
 use Rattle.monomials.specs.declared.monomial.Axis.TheVariants.{X, Y, Z}
 use Rattle.polynomials.specs.Module.{Mod, Lin, self, S, X as times-variable, ∂, lift, x_lin, ∂_lin, lift_lin, lift_x, lift_∂, ∂X, smul_lin, smul_comm}
-use Rattle.polynomials.specs.Words.{Gens, Swap, Op, gen, num, :0, :1, ◌⊞◌, ◌∘◌, ⊟◌, ◌⊟◌, ⟦◌⟧, solve_op}
+use Rattle.polynomials.specs.Words.{Gens, Swap}
 
 -- One more variable: its coordinate is generator 0, its derivative 1, and the former generators follow.
 abbrev pub comm⁺ : (ℕ → ℕ → Bool) → ℕ → ℕ → Bool

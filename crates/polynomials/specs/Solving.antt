@@ -3,7 +3,6 @@
 use Rattle.std.specs.Prelude.{◌≡◌, ℕ, ◌+◌ as ◌+ℕ◌, ◌≤◌}
 use Rattle.algebra.specs.Ring.{Ring}
 use Rattle.monomials.specs.declared.dimension.Dimension.{Dimension}
-use Rattle.polynomials.specs.Module.{Mod}
 use Rattle.polynomials.specs.Series.{Series, Of}
 use Rattle.polynomials.specs.Degrees.{Under}
 use Rattle.polynomials.specs.Symbols.{Symbol, SymbolOf, action}

@@ -1,5 +1,5 @@
 -- Symbols: finite sums of a value times a derivative ∂x^a ∂y^b ∂z^c.
-use Rattle.std.specs.Prelude.{◌≡◌, Bool, cond, ◌&&◌, List, [], ◌∷◌, ◌++◌, ℕ, zero, suc, ◌+◌ as ◌+ℕ◌, ◌≤◌, eqb}
+use Rattle.std.specs.Prelude.{◌≡◌, cond, List, [], ◌∷◌, ◌++◌, ℕ, zero, suc, ◌+◌ as ◌+ℕ◌, ◌≤◌, eqb}
 use Rattle.algebra.specs.Ring.{Ring}
 use Rattle.monomials.specs.declared.dimension.Dimension.{Dimension}
 use Rattle.monomials.specs.declared.dimension.Dimension.TheVariants.{Plane, Space}

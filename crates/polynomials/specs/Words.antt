@@ -1,9 +1,9 @@
 -- A solver for equations between operators of a module: sums of words in linear generators, two of which
 -- commute or have the commutator 1.
-use Rattle.std.specs.Prelude.{◌≡◌, refl, Bool, true, false, ℕ, zero, suc, ◌+◌ as ◌+ℕ◌, ◌*◌ as ◌*ℕ◌, ◌<◌, T}
-use Rattle.std.proofs.Common.{sym, ◌∙◌, ap, ap₂, subst, arith, eqb→eq}
+use Rattle.std.specs.Prelude.{◌≡◌, refl, Bool, true, false, ℕ, zero, suc, ◌+◌ as ◌+ℕ◌, ◌<◌, T}
+use Rattle.std.proofs.Common.{sym, ◌∙◌, ap, ap₂, arith, eqb→eq}
 use Rattle.algebra.specs.Ring.{Ring}
-use Rattle.algebra.specs.RingLaws.{acs, nat, nat_zero, nat_one, nat_add, nat_mul, mul_neg, neg_mul, neg_neg, neg_dist, neg_zero}
+use Rattle.algebra.specs.RingLaws.{acs, nat, nat_zero, nat_one, nat_add, nat_mul, mul_neg, neg_neg, neg_dist, neg_zero}
 use Rattle.algebra.specs.Solver.{Poly, nil, con, hor, hor', addc, add_p, scale, neg_p, is_zero, &&_both}
 use Rattle.polynomials.specs.Module.{Mod, Lin, left_comm_m, left_zero_m, smul_zero, zero_smul, neg_smul, lin_zero, lin_neg, smul_lin, cancel_m}
 

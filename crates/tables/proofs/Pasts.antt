@@ -1,5 +1,5 @@
 -- What lies past a table stays through the writes into it.
-use Rattle.std.proofs.Common.{◌≡◌, ℕ, ◌+◌, ◌-◌, ◌<◌, ◌≤◌, List, drop, set, sym, refl, ap, ◌∙◌, arith, drop-drop, drop-set-lt}
+use Rattle.std.proofs.Common.{◌≡◌, ℕ, ◌+◌, ◌-◌, ◌<◌, ◌≤◌, List, drop, set, sym, ap, ◌∙◌, arith, drop-drop, drop-set-lt}
 use Rattle.tables.specs.Steps.{Past}
 
 pub past_set : {V : Type 0} (n : ℕ) (xs ys : List V) (i : ℕ) (v : V) → i < n → Past n xs ys → Past n xs (set ys i v)

@@ -1,4 +1,4 @@
-use Rattle.std.proofs.Common.{◌<◌, ◌≤◌, IfSome, sym, subst, arith, rules}
+use Rattle.std.proofs.Common.{◌<◌, ◌≤◌, IfSome, sym, subst, arith}
 use Rattle.monomials.specs.Dimensions.{size_of}
 use Rattle.monomials.specs.Places.{exponents}
 use Rattle.monomials.proofs.Walks.{Walk, walk_start, walk_low, walk_on}

@@ -1,4 +1,4 @@
-use Rattle.std.proofs.Common.{[], ◌∷◌, ◌++◌, decimal, append_assoc}
+use Rattle.std.proofs.Common.{[], ◌∷◌, decimal, append_assoc}
 use Rattle.writer.proofs.Puts.{none_is, left_first, left_cell, left_cell_none, left_end}
 use Rattle.writer.proofs.Told.{from_depth, from_place}
 use Rattle.writer.proofs.refusal.put_values.Goals as goal

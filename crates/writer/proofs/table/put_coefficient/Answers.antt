@@ -1,4 +1,4 @@
-use Rattle.std.proofs.Common.{◌≡◌, ◌≤◌, length, ap, ◌∙◌, arith}
+use Rattle.std.proofs.Common.{◌≤◌, length, ap, ◌∙◌, arith}
 use Rattle.files.specs.Form.{line}
 use Rattle.kinds.specs.Pairs.{put}
 use Rattle.writer.proofs.Lengths.{row_of, row_long}
