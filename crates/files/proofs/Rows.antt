@@ -2,7 +2,7 @@
 use Rattle.std.proofs.Common.{◌≡◌, ℕ, ◌+◌, ◌<◌, ◌≤◌, List, [], ◌∷◌, ◌++◌, length, take, drop, set, Ok, decimal, sym, ap, ◌∙◌, subst, arith}
 use Rattle.std.proofs.ByRecursion.{All-push}
 use Rattle.std.proofs.lemmas.List.{append-nil, drop_all, drop-set-lt, drop-drop, flat_map_more, length-append, length-set, take_more_set}
-use Rattle.std.specs.List.{flat_map, AllByRecursion as All}
+use Rattle.std.specs.List.{flat_map, AllByRecursion}
 use Rattle.files.specs.declared.row.Row.{Row}
 use Rattle.files.specs.Form.{line, Fits}
 use Rattle.files.specs.Lines.{Stands, Lined}
@@ -34,7 +34,7 @@ module _ {t₀ : List ℕ} {a₀ : ℕ} {before : List Row} {text : List ℕ} {a
         filled =
             record {
               room = omega (arith, p.long);
-              fit = subst (All Fits) (sym e) (All-push Fits (take n after) r p.filled.fit l.1);
+              fit = subst (AllByRecursion Fits) (sym e) (All-push Fits (take n after) r p.filled.fit l.1);
               rest = drop-set-lt (n + 1) after n r (omega arith) ∙ d;
             };
       }

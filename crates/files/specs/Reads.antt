@@ -1,6 +1,6 @@
 -- What is said of a text that was read.
 use Rattle.std.specs.Prelude.{◌≡◌, ℕ, ◌≤◌, List, length, take, drop, Ok, Err, Result}
-use Rattle.std.specs.List.{flat_map, AllByRecursion as All}
+use Rattle.std.specs.List.{flat_map, AllByRecursion}
 use Rattle.kinds.specs.declared.fault.Fault.{Fault}
 use Rattle.kinds.specs.declared.fault.Question.TheVariants.{Form}
 use Rattle.kinds.specs.Faults.{fault}
@@ -12,7 +12,7 @@ use Rattle.files.specs.Lines.{Ahead}
 -- of the rows, the first n were filled, with values that a line can have, and the others are as they were
 pub record Filled (before after : List Row) (n : ℕ) : Type 0 where
   pub room : n ≤ length before
-  pub fit : All Fits (take n after)
+  pub fit : AllByRecursion Fits (take n after)
   pub rest : drop n after ≡ drop n before
 
 -- the text from the place `at` on is the writing of the first n rows
