@@ -1,3 +1,3 @@
-//! Polynomials over every commutative ring, without limit of degree: theorems that other crates build on.
+//! Polynomials over every commutative ring, without limit of degree: definitions and lemmas, which no contract names yet.
 
 #![tactic(auto)]

@@ -4,3 +4,6 @@ pub mod degree;
 pub mod moves;
 pub mod steps;
 pub mod terms;
+
+// the places of a table are those of its monomials, which stand in a crate of their own
+pub use monomials::{dimension, monomial};
