@@ -1,9 +1,9 @@
 use cells::answer::answer;
+use kinds::fault::{Fault, Refusal};
 use kinds::fractions::Fractions;
 use kinds::kind::Kind;
 use kinds::pairs::Pair;
-use laplace::laplacian::Laplacian;
-use laplace::matrix::Symmetric;
+use laplace::laplacian::isotropic;
 use monomials::dimension::Dimension;
 use monomials::monomial::Monomial;
 use operators::operator::Solvable;
@@ -94,26 +94,10 @@ fn refuses(heap: Global, text: &[u8], values: &str) -> Result<bool, Fail> {
 // The text of a cell in which one line of values comes some times over.
 fn repeated(heap: Global, line: &[u8], times: usize) -> Result<Vec<u8>, Fail> {
     let mut text = Vec::from_slice(heap, b"d knum kden\n3 4 1\na b c num den\n")?;
-    for _i in 0..times {
+    for _ in 0..times {
         text.extend_from_slice(line)?;
     }
     Ok(text)
-}
-
-fn unit(dimension: u64) -> Laplacian<Pair> {
-    let zero = Fractions.whole(0);
-    let one = Fractions.whole(1);
-    Laplacian {
-        dimension,
-        matrix: Symmetric {
-            xx: one,
-            xy: zero,
-            xz: zero,
-            yy: one,
-            yz: zero,
-            zz: one,
-        },
-    }
 }
 
 #[cfg(test)]
@@ -122,7 +106,7 @@ mod tests {
 
     #[test]
     fn cells_are_answered(rt: HostRuntime) -> Result<(), Fail> {
-        for (text, want) in ANSWERED.iter() {
+        for (text, want) in &ANSWERED {
             assert!(rt;
                 answers(rt.alloc(), text.as_bytes(), want.as_bytes())?,
                 "{}",
@@ -134,7 +118,7 @@ mod tests {
 
     #[test]
     fn cells_are_refused(rt: HostRuntime) -> Result<(), Fail> {
-        for (text, values) in REFUSED.iter() {
+        for (text, values) in &REFUSED {
             assert!(rt; refuses(rt.alloc(), text.as_bytes(), values)?, "{}", text);
         }
         Ok(())
@@ -205,11 +189,16 @@ mod tests {
         source[91] = one;
         let mut target = [one; 92];
         let mut work = [one; 547];
-        let passes = unit(2).solve(&Fractions, &mut source, &mut target, &mut work)?;
+        let passes = isotropic(&Fractions, 2).solve(
+            &Fractions,
+            &mut source,
+            &mut target,
+            &mut work,
+        )?;
         assert_eq!(rt; passes, 1);
-        assert!(rt; target[10].num == 7 && target[10].den == 96);
-        assert!(rt; target[12].num == 1 && target[12].den == 16);
-        assert!(rt; target[14].num == -1 && target[14].den == 96);
+        assert_eq!(rt; target[10], Pair { num: 7, den: 96 });
+        assert_eq!(rt; target[12], Pair { num: 1, den: 16 });
+        assert_eq!(rt; target[14], Pair { num: -1, den: 96 });
         assert!(rt; target[91].num == 1 && source[3].num == 1 && source[91].num == 1);
         assert!(rt; work[0].num == 0 && work[545].num == 0 && work[546].num == 1);
         Ok(())
@@ -224,10 +213,18 @@ mod tests {
         source[66] = one;
         let mut target = [one; 91];
         let mut work = [one; 546];
-        match unit(2).solve(&Fractions, &mut source, &mut target, &mut work) {
-            Ok(_) => assert!(rt; false),
-            Err(e) => assert!(rt; e.refusal().number == 11 && e.refusal().place == 11),
-        }
+        let answer = isotropic(&Fractions, 2).solve(
+            &Fractions,
+            &mut source,
+            &mut target,
+            &mut work,
+        );
+        let refusal = Refusal {
+            number: 11,
+            depth: 0,
+            place: 11,
+        };
+        assert_eq!(rt; answer, Err(Fault::Size(refusal)));
         assert!(rt; target[0].num == 0 && target[90].num == 0 && source[66].num == 1);
     }
 }

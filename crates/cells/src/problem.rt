@@ -1,37 +1,23 @@
-use crate::source::{ask_denominators, make_values, place_terms};
+use crate::source::{ask_denominators, reduce};
 use files::read::Cell;
-use files::row::Row;
 use kinds::fault::{Fault, Question};
 use kinds::fraction::Fraction;
 use kinds::fractions::Fractions;
 use kinds::kind::Kind;
 use kinds::pairs::Pair;
-use laplace::laplacian::Laplacian;
-use laplace::matrix::Symmetric;
+use laplace::laplacian::isotropic;
 use layers::remainder::Remainder;
 use monomials::dimension::Dimension;
 use operators::constant::Constant;
 use operators::operator::Solvable;
-use tables::terms::{Term, add_terms, ask_monomials};
+use operators::questions::{LAYER_TABLES, SIMPLE_NEED, leaf_dimension};
+use tables::tables::Tables;
+use tables::terms::{Term, ask_monomials};
 
-// The working tables of a remainder layer over a constant: four of its own, and six.
-pub const WORKING_TABLES: usize = 10;
+// The working tables of a remainder layer over a constant.
+pub const WORKING_TABLES: usize = (LAYER_TABLES + SIMPLE_NEED) as usize;
 
-fn laplacian(dimension: u64) -> Laplacian<Pair> {
-    let zero = Fractions.whole(0);
-    let one = Fractions.whole(1);
-    Laplacian {
-        dimension,
-        matrix: Symmetric {
-            xx: one,
-            xy: zero,
-            xz: zero,
-            yy: one,
-            yz: zero,
-            zz: one,
-        },
-    }
-}
+// The tables are slices of their own, as `operators::operator` says.
 
 // Solves the equation of a cell: the Laplacian, plus a constant unless that is zero, applied to the target is the source.
 fn solved(
@@ -42,49 +28,45 @@ fn solved(
     work: &mut [Pair],
 ) -> Result<u32, Fault> {
     if Fractions.is_zero(constant) {
-        return laplacian(dimension).solve(&Fractions, source, target, work);
+        return isotropic(&Fractions, dimension).solve(&Fractions, source, target, work);
     }
     let pile = Remainder {
         base: Constant {
             dimension,
             value: constant,
         },
-        rest: laplacian(dimension),
+        rest: isotropic(&Fractions, dimension),
     };
     pile.solve(&Fractions, source, target, work)
 }
 
 // The questions on a cell's numbers that come before its values are formed, and its terms.
-fn prepared(
-    cell: &Cell,
-    rows: &[Row],
-    terms: &mut [Term<Pair>],
-) -> Result<(Dimension, Pair), Fault> {
-    let Some(dimension) = Dimension::of(cell.d) else {
-        return Err(Fault::no(Question::Dimension, 0));
-    };
+fn prepared(cell: &Cell, terms: &mut [Term<Pair>]) -> Result<(Dimension, Pair), Fault> {
+    let dimension = leaf_dimension(cell.d)?;
     if cell.kden == 0 {
         return Err(Fault::no(Question::Denominator, 0));
     }
-    ask_denominators(rows)?;
-    place_terms(rows, terms);
+    ask_denominators(terms)?;
     ask_monomials(dimension, terms)?;
     let constant = Fraction::new(cell.knum, cell.kden)?;
-    make_values(rows, terms)?;
-    Ok((dimension, constant.pair()))
+    reduce(terms)?;
+    Ok((dimension, constant.into()))
 }
 
-// The solution of a cell, into the target; the source is made in its own table.
+// The solution of a cell with these terms, into the target; the source is made in its own table.
 pub(crate) fn solve_cell(
     cell: &Cell,
-    rows: &[Row],
     terms: &mut [Term<Pair>],
     source: &mut [Pair],
     target: &mut [Pair],
     work: &mut [Pair],
 ) -> Result<Dimension, Fault> {
-    let (dimension, constant) = prepared(cell, rows, terms)?;
-    add_terms(&Fractions, dimension, terms, source)?;
+    let (dimension, constant) = prepared(cell, terms)?;
+    let tables = Tables {
+        kind: &Fractions,
+        dimension,
+    };
+    tables.add_terms(terms, source)?;
     solved(cell.d, constant, source, target, work)?;
     Ok(dimension)
 }

@@ -7,47 +7,38 @@ use tables::terms::Term;
 
 // An exponent as a small number: what is too large for it is too large for a table all the same.
 fn exponent(n: u64) -> u8 {
-    if n < 255 { n as u8 } else { 255 }
+    u8::try_from(n).unwrap_or(u8::MAX)
 }
 
-fn monomial(row: &Row) -> Monomial {
-    Monomial {
-        a: exponent(row.a),
-        b: exponent(row.b),
-        c: exponent(row.c),
+// The term of a row, with the two numbers of its coefficient as they are given: what it means is settled once it is reduced.
+// It is no `From`, since neither type is of this crate.
+pub(crate) fn term(row: &Row) -> Term<Pair> {
+    Term {
+        monomial: Monomial {
+            a: exponent(row.a),
+            b: exponent(row.b),
+            c: exponent(row.c),
+        },
+        value: Pair {
+            num: row.num,
+            den: row.den,
+        },
     }
 }
 
-// Whether each row has a denominator other than zero.
-pub(crate) fn ask_denominators(rows: &[Row]) -> Result<(), Fault> {
-    for i in 0..rows.len() {
-        if rows[i].den == 0 {
-            return Err(Fault::no(Question::Denominator, i as u64));
-        }
-    }
-    Ok(())
-}
-
-// The monomials of the rows, each with a coefficient of zero as yet.
-pub(crate) fn place_terms(rows: &[Row], terms: &mut [Term<Pair>]) {
-    let end = rows.len().min(terms.len());
-    for i in 0..end {
-        terms[i] = Term {
-            monomial: monomial(&rows[i]),
-            value: Pair { num: 0, den: 1 },
-        };
+// Whether each coefficient has a denominator other than zero. It stands apart from the like question on monomials: a function
+// for both would be public, and have to ask of the closure that it may be called.
+pub(crate) fn ask_denominators(terms: &[Term<Pair>]) -> Result<(), Fault> {
+    match terms.iter().position(|term| term.value.den == 0) {
+        Some(i) => Err(Fault::no(Question::Denominator, i as u64)),
+        None => Ok(()),
     }
 }
 
-// The coefficients of the rows, reduced.
-pub(crate) fn make_values(rows: &[Row], terms: &mut [Term<Pair>]) -> Result<(), Fault> {
-    let end = rows.len().min(terms.len());
-    for i in 0..end {
-        let value = Fraction::new(rows[i].num, rows[i].den)?;
-        terms[i] = Term {
-            monomial: terms[i].monomial,
-            value: value.pair(),
-        };
+// Makes each coefficient a fraction in lowest terms.
+pub(crate) fn reduce(terms: &mut [Term<Pair>]) -> Result<(), Fault> {
+    for term in terms.iter_mut() {
+        term.value = Fraction::new(term.value.num, term.value.den)?.into();
     }
     Ok(())
 }

@@ -2,12 +2,14 @@
 use Rattle.std.proofs.Common.{◌≡◌, ℕ, ◌+◌, ◌-◌, ◌^◌, ◌<◌, ◌≤◌, Bool, false, List, [], ◌∷◌, ◌++◌, length, take, drop, ℤ, pos, nat_abs, decimal, sym, refl, ap, ◌∙◌, subst, append_assoc, arith}
 use Rattle.std.proofs.lemmas.List.{drop_more, length-append, length-drop}
 use Rattle.std.specs.Fmt.{signed_decimal}
+use Rattle.files.specs.declared.reader.Reader.{Reader}
 use Rattle.files.specs.declared.row.Row.{Row}
 use Rattle.files.specs.declared.token.Token.{Token}
 use Rattle.files.specs.declared.token.Token.TheVariants as T
 use Rattle.files.specs.Form.{line}
 use Rattle.files.specs.Lines.{Stands}
 use Rattle.files.specs.Names.{Names}
+use Rattle.files.specs.Steps.{ReadsOn}
 use Rattle.files.specs.Tokens.{value_of, size_of, Took}
 use Rattle.files.specs.Words.{IsNatural}
 use Rattle.files.proofs.Tools.{cut}
@@ -57,18 +59,21 @@ pub stands_name : {text : List ℕ} {at : ℕ} {want : List ℕ} {end to : ℕ} 
 stands_name {text} {at} {want} {end} {to} n =
     stands text at (want ++ (end ∷ [])) to (omega (arith, n.place)) n.within (n.rest ∙ sym (append_assoc want (end ∷ []) (drop to text)))
 
--- the reader has passed the bytes bs, from the place a₀ of its text on
-pub record Passed (t₀ : List ℕ) (a₀ : ℕ) (bs text : List ℕ) (at : ℕ) : Type 0 where
-  pub kept : text ≡ t₀
-  pub line : Stands t₀ a₀ bs at
+-- the reader goes on by the bytes bs
+abbrev pub Passes : Reader → List ℕ → Reader → Type 0
+Passes r bs s = ReadsOn r s (λ text from to. Stands text from bs to)
 
-module _ {text : List ℕ} {at : ℕ} {bs text' : List ℕ} {to : ℕ} where
-  pub passed : text' ≡ text → Stands text at bs to → Passed text at bs text' to
-  passed k s = record { kept = k; line = s }
+module _ {r s : Reader} {P : List ℕ → ℕ → ℕ → Type 0} {bs : List ℕ} where
+  pub passes : ReadsOn r s P → Stands r.text.now r.at bs s.at → Passes r bs s
+  passes k p = record { kept = k.kept; read = p }
 
-module _ {t₀ : List ℕ} {a₀ : ℕ} {bs text : List ℕ} {at : ℕ} {cs text' : List ℕ} {to : ℕ} where
-  pub passed_then : Passed t₀ a₀ bs text at → text' ≡ text → Stands text at cs to → Passed t₀ a₀ (bs ++ cs) text' to
-  passed_then p k s = record { kept = k ∙ p.kept; line = stands_then t₀ a₀ bs at cs to p.line (subst (λ (x : List ℕ). Stands x at cs to) p.kept s) }
+module _ {r s t : Reader} {P : List ℕ → ℕ → ℕ → Type 0} {bs cs : List ℕ} where
+  pub passes_then : Passes r bs s → ReadsOn s t P → Stands s.text.now s.at cs t.at → Passes r (bs ++ cs) t
+  passes_then p k q =
+      record {
+        kept = k.kept ∙ p.kept;
+        read = stands_then r.text.now r.at bs s.at cs t.at p.read (subst (λ (x : List ℕ). Stands x s.at cs t.at) p.kept q);
+      }
 
 -- the rest of a row's line from one of its words on
 abbrev pub from_den : Row → List ℕ

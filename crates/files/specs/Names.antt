@@ -1,5 +1,6 @@
 -- What the reader says of a name.
 use Rattle.std.specs.Prelude.{◌≡◌, ℕ, ◌+◌, ◌-◌, ◌<◌, ◌≤◌, true, List, [], ◌∷◌, ◌++◌, length, take, drop, Ok, Err, Result, ◌≢◌, slice_index}
+use Rattle.files.specs.declared.misfit.Misfit.{Misfit}
 use Rattle.files.specs.declared.token.Token.{Token}
 use Rattle.files.specs.Tokens.{word_of, is_name}
 
@@ -26,6 +27,6 @@ pub record Misnames (text : List ℕ) (at : ℕ) (want : List ℕ) (end e : ℕ)
   pub begun : Begun text at want e (e - at)
   pub stops : e < length text → slice_index text e ≢ slice_index (want ++ (end ∷ [])) (e - at)
 
-abbrev pub Named : List ℕ → ℕ → List ℕ → ℕ → ℕ → Result Token ℕ → Type 0
+abbrev pub Named : List ℕ → ℕ → List ℕ → ℕ → ℕ → Result Token Misfit → Type 0
 Named text at want end to (Ok tok) = Names text at want end to tok
-Named text at want end to (Err e) = Misnames text at want end e
+Named text at want end to (Err e) = Misnames text at want end e.place

@@ -4,6 +4,7 @@ use Rattle.std.specs.List.{flat_map, AllByRecursion}
 use Rattle.kinds.specs.declared.fault.Fault.{Fault}
 use Rattle.kinds.specs.declared.fault.Question.TheVariants.{Form}
 use Rattle.kinds.specs.Faults.{fault}
+use Rattle.files.specs.declared.misfit.Misfit.{Misfit}
 use Rattle.files.specs.declared.read.Cell.{Cell}
 use Rattle.files.specs.declared.row.Row.{Row}
 use Rattle.files.specs.Form.{line, written, cell_written, Fits, CellFits}
@@ -16,17 +17,17 @@ pub record Filled (before after : List Row) (n : ℕ) : Type 0 where
   pub rest : drop n after ≡ drop n before
 
 -- the text from the place `at` on is the writing of the first n rows
-abbrev pub ValuesFrom : List ℕ → ℕ → List Row → List Row → Result ℕ ℕ → Type 0
+abbrev pub ValuesFrom : List ℕ → ℕ → List Row → List Row → Result ℕ Misfit → Type 0
 ValuesFrom text at before after (Ok n) = Filled before after n × (drop at text ≡ flat_map line (take n after))
-ValuesFrom text at before after (Err e) = Ahead text at e
+ValuesFrom text at before after (Err e) = Ahead text at e.place
 
-abbrev pub TermsFrom : List ℕ → ℕ → List Row → List Row → Result ℕ ℕ → Type 0
+abbrev pub TermsFrom : List ℕ → ℕ → List Row → List Row → Result ℕ Misfit → Type 0
 TermsFrom text at before after (Ok n) = Filled before after n × (drop at text ≡ written (take n after))
-TermsFrom text at before after (Err e) = Ahead text at e
+TermsFrom text at before after (Err e) = Ahead text at e.place
 
-abbrev pub CellFrom : List ℕ → ℕ → List Row → List Row → Result Cell ℕ → Type 0
+abbrev pub CellFrom : List ℕ → ℕ → List Row → List Row → Result Cell Misfit → Type 0
 CellFrom text at before after (Ok c) = Filled before after c.count × CellFits c × (drop at text ≡ cell_written c (take c.count after))
-CellFrom text at before after (Err e) = Ahead text at e
+CellFrom text at before after (Err e) = Ahead text at e.place
 
 -- the text is refused at a place of it, or its end
 abbrev pub Misfits : List ℕ → Fault → Type 0

@@ -1,6 +1,7 @@
 -- What the reader says of a number.
 use Rattle.std.specs.Prelude.{◌≡◌, ℕ, ◌-◌, ◌<◌, ◌≤◌, Bool, true, false, List, length, take, drop, ℤ, pos, None, Ok, Err, Result, slice_index, slice_index_or, unsigned_abs}
 use Rattle.std.specs.Fmt.{signed_decimal}
+use Rattle.files.specs.declared.misfit.Misfit.{Misfit}
 use Rattle.files.specs.declared.part.Part.{Part}
 use Rattle.files.specs.declared.token.Token.{Token}
 use Rattle.files.specs.declared.token.Token.TheVariants as T
@@ -40,6 +41,6 @@ pub record Stopped (text : List ℕ) (at : ℕ) (sign : Bool) (end e : ℕ) : Ty
   pub longest : Longest text at sign e part
   pub unended : e < length text → slice_index text e ≡ end → worth part ≡ None
 
-abbrev pub Numbered : List ℕ → ℕ → Bool → ℕ → ℕ → Result Token ℕ → Type 0
+abbrev pub Numbered : List ℕ → ℕ → Bool → ℕ → ℕ → Result Token Misfit → Type 0
 Numbered text at sign end to (Ok tok) = Took text at sign end to tok
-Numbered text at sign end to (Err e) = Stopped text at sign end e
+Numbered text at sign end to (Err e) = Stopped text at sign end e.place

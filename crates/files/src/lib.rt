@@ -2,6 +2,7 @@
 
 pub mod limit;
 mod line;
+pub mod misfit;
 mod part;
 pub mod read;
 pub mod reader;

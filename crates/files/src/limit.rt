@@ -1,6 +1,7 @@
 ghost use Rattle.files.specs.Reads.{CellWithin};
 
-use crate::read::{Cell, misfit, read_cell};
+use crate::misfit::Misfit;
+use crate::read::{Cell, read_cell};
 use crate::row::Row;
 use kinds::fault::Fault;
 
@@ -12,8 +13,6 @@ pub fn read_cell_within(text: &[u8], most: usize, rows: &mut [Row]) -> Result<Ce
     if text.len() <= most {
         return read_cell(text, rows);
     }
-    match read_cell(&text[0..most], rows) {
-        Ok(_) => Err(misfit(most)),
-        Err(fault) => Err(fault),
-    }
+    read_cell(&text[..most], rows)?;
+    Err(Fault::from(Misfit { place: most }))
 }

@@ -1,28 +1,27 @@
-ghost use Rattle.std.specs.Prelude.{◌≡◌};
 ghost use Rattle.files.specs.Form.{cell_names, names};
 ghost use Rattle.files.specs.Lines.{Headed, Lined, CellLined};
+ghost use Rattle.files.specs.Steps.{ReadsOn};
 
+use crate::misfit::Misfit;
 use crate::read::Cell;
 use crate::reader::Reader;
 use crate::row::Row;
 
 // Passes the line of the names of a term's values.
-pub(crate) fn term_names(reader: &mut Reader) -> Result<(), usize>
-    ensures kept { reader.new.text.now ≡ reader.old.text.now }
-    ensures line { Headed reader.old.text.now reader.old.at names reader.new.at result }
+pub(crate) fn term_names(reader: &mut Reader) -> Result<(), Misfit>
+    ensures { ReadsOn reader.old reader.new (λ text from to. Headed text from names to result) }
 {
-    let _a = reader.name(b"a", b' ')?;
-    let _b = reader.name(b"b", b' ')?;
-    let _c = reader.name(b"c", b' ')?;
-    let _num = reader.name(b"num", b' ')?;
-    let _den = reader.name(b"den", b'\n')?;
+    reader.name(b"a", b' ')?;
+    reader.name(b"b", b' ')?;
+    reader.name(b"c", b' ')?;
+    reader.name(b"num", b' ')?;
+    reader.name(b"den", b'\n')?;
     Ok(())
 }
 
 // Passes a line of a term's values.
-pub(crate) fn term_values(reader: &mut Reader) -> Result<Row, usize>
-    ensures kept { reader.new.text.now ≡ reader.old.text.now }
-    ensures line { Lined reader.old.text.now reader.old.at reader.new.at result }
+pub(crate) fn term_values(reader: &mut Reader) -> Result<Row, Misfit>
+    ensures { ReadsOn reader.old reader.new (λ text from to. Lined text from to result) }
 {
     let a = reader.number(false, b' ')?.size();
     let b = reader.number(false, b' ')?.size();
@@ -32,21 +31,20 @@ pub(crate) fn term_values(reader: &mut Reader) -> Result<Row, usize>
     Ok(Row { a, b, c, num, den })
 }
 
-// Passes the line of the names of a cell's own values.
-pub(crate) fn cell_names(reader: &mut Reader) -> Result<(), usize>
-    ensures kept { reader.new.text.now ≡ reader.old.text.now }
-    ensures line { Headed reader.old.text.now reader.old.at cell_names reader.new.at result }
+// Passes the line of the names of a cell's own values. A function over any list of names would promise them joined by spaces,
+// which is no plainer than the two lines.
+pub(crate) fn cell_names(reader: &mut Reader) -> Result<(), Misfit>
+    ensures { ReadsOn reader.old reader.new (λ text from to. Headed text from cell_names to result) }
 {
-    let _d = reader.name(b"d", b' ')?;
-    let _knum = reader.name(b"knum", b' ')?;
-    let _kden = reader.name(b"kden", b'\n')?;
+    reader.name(b"d", b' ')?;
+    reader.name(b"knum", b' ')?;
+    reader.name(b"kden", b'\n')?;
     Ok(())
 }
 
 // Passes the line of a cell's own values. Its terms are not counted yet.
-pub(crate) fn cell_values(reader: &mut Reader) -> Result<Cell, usize>
-    ensures kept { reader.new.text.now ≡ reader.old.text.now }
-    ensures line { CellLined reader.old.text.now reader.old.at reader.new.at result }
+pub(crate) fn cell_values(reader: &mut Reader) -> Result<Cell, Misfit>
+    ensures { ReadsOn reader.old reader.new (λ text from to. CellLined text from to result) }
 {
     let d = reader.number(false, b' ')?.size();
     let knum = reader.number(true, b' ')?.value();

@@ -1,9 +1,13 @@
 ghost use Rattle.std.specs.Prelude.{◌≡◌};
 ghost use Rattle.files.specs.Words.{grow, worth, InRange};
 
-const TOP: u64 = 9223372036854775807;
+// How large a number may be whose word begins with no minus, and how far below 0 one whose word does.
+const TOP: u64 = i64::MAX as u64;
 
-// What of a number's word is read so far: digits are kept as the number that they write.
+const DEPTH: u64 = TOP + 1;
+
+// What of a number's word is read so far: digits are kept as the number that they write. The library's `parse` takes more
+// words, as 007, and does not tell the first byte that does not fit.
 #[derive(Clone, Copy)]
 pub(crate) enum Part {
     Nothing,
@@ -17,37 +21,19 @@ impl Part {
     pub(crate) fn grown(self, b: u8, sign: bool) -> Option<Part>
         ensures { result ≡ grow sign self b }
     {
-        if b >= b'0' && b <= b'9' {
-            let d = u64::from(b) - 48;
-            match self {
-                Part::Nothing => Some(Part::Natural(d)),
-                Part::Minus => { if d > 0 { Some(Part::Negative(d)) } else { None } }
-                Part::Natural(n) => {
-                    if n > 0 && n <= (TOP - d) / 10 {
-                        Some(Part::Natural(10 * n + d))
-                    } else {
-                        None
-                    }
-                }
-                Part::Negative(n) => {
-                    if n <= (TOP + 1 - d) / 10 {
-                        Some(Part::Negative(10 * n + d))
-                    } else {
-                        None
-                    }
-                }
+        match (self, b) {
+            (Part::Nothing, b'0'..=b'9') => Some(Part::Natural(u64::from(b - b'0'))),
+            (Part::Nothing, b'-') => sign.then_some(Part::Minus),
+            (Part::Minus, b'1'..=b'9') => Some(Part::Negative(u64::from(b - b'0'))),
+            (Part::Natural(n), b'0'..=b'9') => {
+                let more = n.checked_mul(10)?.checked_add(u64::from(b - b'0'))?;
+                (n > 0 && more <= TOP).then_some(Part::Natural(more))
             }
-        } else {
-            match self {
-                Part::Nothing => {
-                    if sign && b == b'-' {
-                        Some(Part::Minus)
-                    } else {
-                        None
-                    }
-                }
-                _ => None,
+            (Part::Negative(n), b'0'..=b'9') => {
+                let more = n.checked_mul(10)?.checked_add(u64::from(b - b'0'))?;
+                (more <= DEPTH).then_some(Part::Negative(more))
             }
+            _ => None,
         }
     }
 
@@ -57,8 +43,7 @@ impl Part {
         ensures { result ≡ worth self }
     {
         match self {
-            Part::Nothing => None,
-            Part::Minus => None,
+            Part::Nothing | Part::Minus => None,
             Part::Natural(n) => Some(n as i64),
             // less one on the way, since the least number has no positive counterpart
             Part::Negative(n) => Some(-1 - ((n - 1) as i64)),

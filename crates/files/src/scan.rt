@@ -8,16 +8,13 @@ pub(crate) fn longest(text: &[u8], from: usize, sign: bool) -> (usize, Part)
     requires { from ≤ length text.now }
     ensures { Longest text.now from sign result.0 result.1 }
 {
+    let rest = &text[from..];
     let mut part = Part::Nothing;
-    let mut to = from;
-    while to < text.len() {
-        match part.grown(text[to], sign) {
-            Some(more) => {
-                part = more;
-                to += 1;
-            }
-            None => return (to, part),
+    for (i, b) in rest.iter().enumerate() {
+        match part.grown(*b, sign) {
+            Some(more) => part = more,
+            None => return (from + i, part),
         }
     }
-    (to, part)
+    (text.len(), part)
 }

@@ -11,8 +11,7 @@ use kinds::pairs::Pair;
 fn numbers(answer: Result<Pair, Fault>) -> Result<(i64, i64), Fault>
     ensures { MatchResult answer (λ p. result ≡ Ok (p.num, p.den)) (λ e. result ≡ Err e) }
 {
-    let p = answer?;
-    Ok((p.num, p.den))
+    answer.map(|p| (p.num, p.den))
 }
 
 #[cfg(test)]
@@ -27,6 +26,7 @@ mod tests {
 
     type Numbers = (i64, i64);
 
+    // A constant calls no function, so the faults that are wanted are written out.
     const MODULUS: Fault = Fault::Input(Refusal {
         number: 5,
         depth: 0,
@@ -51,11 +51,8 @@ mod tests {
         place: 0,
     });
 
-    fn pair(numbers: Numbers) -> Pair {
-        Pair {
-            num: numbers.0,
-            den: numbers.1,
-        }
+    fn pair((num, den): Numbers) -> Pair {
+        Pair { num, den }
     }
 
     const SUMS: [(Numbers, Numbers, Result<Numbers, Fault>); 27] = [
@@ -228,11 +225,8 @@ mod tests {
     #[test]
     fn fractions_from_two_numbers(rt: HostRuntime) {
         for ((num, den), want) in MADE {
-            let got = match Fraction::new(num, den) {
-                Ok(f) => numbers(Ok(f.pair())),
-                Err(e) => Err(e),
-            };
-            assert_eq!(rt; got, want);
+            let got = Fraction::new(num, den).map(Pair::from);
+            assert_eq!(rt; numbers(got), want);
         }
     }
 
@@ -258,10 +252,7 @@ mod tests {
     #[test]
     fn numbers_that_are_no_modulus(rt: HostRuntime) {
         for m in [0, 1, 2147483648, 4294967295] {
-            match Residues::new(m) {
-                Ok(_) => assert!(rt; false),
-                Err(e) => assert_eq!(rt; e, MODULUS),
-            }
+            assert_eq!(rt; Residues::new(m).err(), Some(MODULUS));
         }
     }
 
@@ -326,6 +317,15 @@ mod tests {
             assert_eq!(rt; k.inverse(a), inverse);
             assert_eq!(rt; k.is_zero(a), minus == 0);
         }
+        Ok(())
+    }
+
+    #[test]
+    fn faults_print_their_three_numbers(rt: HostRuntime) -> Result<(), Fail> {
+        let fault = RANGE.at(61).deeper();
+        let refusal = fault.refusal();
+        assert_eq!(rt; format!(in rt.alloc(); "{fault}")?.as_str(), "12 1 61");
+        assert_eq!(rt; format!(in rt.alloc(); "{refusal}")?.as_str(), "12 1 61");
         Ok(())
     }
 }

@@ -1,6 +1,7 @@
 #![tactic(auto)]
 
-use anyhow::{Context, anyhow};
+use anyhow::Context;
+use kinds::fault::Fault;
 use kinds::fractions::Fractions;
 use kinds::kind::Kind;
 use kinds::pairs::Pair;
@@ -9,51 +10,58 @@ use std::env;
 
 // Forms many sums or products of one kind, so that their cost can be measured from outside.
 
-#[derive(Clone, Copy)]
-enum Operation {
-    Sum,
-    Product,
-}
-
-fn formed<K: Kind>(k: &K, operation: Operation, a: K::Value, b: K::Value) -> Option<K::Value> {
-    let result = match operation {
-        Operation::Sum => k.sum(a, b),
-        Operation::Product => k.product(a, b),
-    };
-    match result {
-        Ok(v) => Some(v),
-        Err(_) => None,
-    }
-}
-
 // Forms the results of `a` with each value: how many are refused, and one more where the last is zero, so that they are used.
-fn row<K: Kind>(k: &K, operation: Operation, a: K::Value, values: &[K::Value]) -> u64 {
-    let mut none: u64 = 0;
-    let mut last = k.whole(1);
-    for b in values {
-        match formed(k, operation, a, *b) {
-            Some(v) => last = v,
-            None => none = none.saturating_add(1),
-        }
-    }
-    none.saturating_add(if k.is_zero(last) { 1 } else { 0 })
+fn row<K: Kind, F: Fn(K::Value, K::Value) -> Result<K::Value, Fault>>(
+    k: &K,
+    form: &F,
+    a: K::Value,
+    values: &[K::Value],
+) -> u64
+    requires { F.IsAlwaysCallable form.now }
+{
+    let (none, last) = values
+        .iter()
+        .fold((0u64, k.whole(1)), |(none, last), b| match form(a, *b) {
+            Ok(v) => (none, v),
+            Err(_) => (none.saturating_add(1), last),
+        });
+    none.saturating_add(u64::from(k.is_zero(last)))
 }
 
-fn round<K: Kind>(k: &K, operation: Operation, values: &[K::Value]) -> u64 {
-    let mut none: u64 = 0;
-    for a in values {
-        none = none.saturating_add(row(k, operation, *a, values));
-    }
-    none
+// A round is a fold of its own: one `flat_map` over all rounds makes the residues measurably slower.
+fn round<K: Kind, F: Fn(K::Value, K::Value) -> Result<K::Value, Fault>>(
+    k: &K,
+    form: &F,
+    values: &[K::Value],
+) -> u64
+    requires { F.IsAlwaysCallable form.now }
+{
+    values
+        .iter()
+        .map(|a| row(k, form, *a, values))
+        .fold(0, u64::saturating_add)
 }
 
 // Goes through the pairs of values some times over.
-fn tally<K: Kind>(k: &K, operation: Operation, values: &[K::Value], rounds: u64) -> u64 {
-    let mut none: u64 = 0;
-    for _turn in 0..rounds {
-        none = none.saturating_add(round(k, operation, values));
+fn tally<K: Kind, F: Fn(K::Value, K::Value) -> Result<K::Value, Fault>>(
+    k: &K,
+    form: F,
+    values: &[K::Value],
+    rounds: u64,
+) -> u64
+    requires { F.IsAlwaysCallable form }
+{
+    (0..rounds)
+        .map(|_| round(k, &form, values))
+        .fold(0, u64::saturating_add)
+}
+
+// The argument chooses what is formed.
+fn cost<K: Kind>(k: &K, operation: &str, values: &[K::Value], rounds: u64) -> u64 {
+    match operation {
+        "sum" => tally(k, |a, b| k.sum(a, b), values, rounds),
+        _ => tally(k, |a, b| k.product(a, b), values, rounds),
     }
-    none
 }
 
 const FRACTIONS: [Pair; 8] = [
@@ -79,19 +87,13 @@ fn run(rt: &HostRuntime) -> anyhow::Result<()> {
     let mut words = env::args(rt)?;
     let _program = words.next();
     let kind = words.next().context("no kind")?;
-    let name = words.next().context("no operation")?;
+    let operation = words.next().context("no operation")?;
     let rounds = words.next().context("no rounds")?.as_str().parse::<u64>()?;
-    let operation = if name.as_str() == "sum" {
-        Operation::Sum
-    } else {
-        Operation::Product
-    };
-    let none = if kind.as_str() == "fractions" {
-        tally(&Fractions, operation, &FRACTIONS, rounds)
-    } else {
-        match Residues::new(2147483647) {
-            Ok(k) => tally(&k, operation, &RESIDUES, rounds),
-            Err(_) => return Err(anyhow!("no modulus")),
+    let none = match kind.as_str() {
+        "fractions" => cost(&Fractions, operation.as_str(), &FRACTIONS, rounds),
+        _ => {
+            let k = Residues::new(2147483647).context("no modulus")?;
+            cost(&k, operation.as_str(), &RESIDUES, rounds)
         }
     };
     println!(rt; "{rounds} rounds, {none} refused or zero")?;

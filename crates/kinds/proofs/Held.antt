@@ -1,7 +1,7 @@
 -- What a Fraction holds, as one record, and the test of a pair part by part.
-use Rattle.std.proofs.Common.{◌≡◌, ◌<◌, ◌≤◌, true, false, eqb, leb, ℤ, pos, negsuc, nat_abs, ◌<ℤ◌, sym, refl, ap, ◌∙◌, subst, arith, ltb→lt, lt→ltb}
+use Rattle.std.proofs.Common.{◌≡◌, ◌<◌, ◌≤◌, true, eqb, ℤ, pos, negsuc, nat_abs, ◌<ℤ◌, sym, refl, ap, ◌∙◌, subst, arith, ltb→lt, lt→ltb}
 use lib.Signed.{lt_z}
-use Rattle.std.proofs.lemmas.Bool.{le-leb, lt-leb, lt-ltb, eq-eqb, and_left, and_right, or_left}
+use Rattle.std.proofs.lemmas.Bool.{le-leb, lt-ltb, eq-eqb, or_left}
 use Rattle.algebra.specs.Gcd.{gcd, gcd_one}
 use Rattle.algebra.specs.Rationals.{ratio, ratio_num}
 use Rattle.kinds.specs.declared.fraction.Fraction.{Fraction}
@@ -31,18 +31,6 @@ pub parts : (n d : ℤ) → Sound n d → record { some : pos 0 <ℤ d; low : na
 parts n d s = record { some = some_of n d s; low = s.small_den; small = s.small_num; coprime = s.coprime }
 
 -- ---- the test
-
-pub not_above : (n d : ℤ) → lt_z (pos 0) d ≡ false → false ≡ sound n d
-unfolding sound
-not_above n d e = sym (and_left _ _ e)
-
-pub den_large : (n d : ℤ) → limit < nat_abs d → false ≡ sound n d
-unfolding sound
-den_large n d h = sym (and_right (lt_z (pos 0) d) _ (and_left _ _ (lt-leb (nat_abs d) limit h)))
-
-pub num_large : (n d : ℤ) → limit < nat_abs n → false ≡ sound n d
-unfolding sound
-num_large n d h = sym (and_right (lt_z (pos 0) d) _ (and_right (leb (nat_abs d) limit) _ (and_left _ _ (lt-leb (nat_abs n) limit h))))
 
 pub only_gcd : (n d : ℤ) → lt_z (pos 0) d ≡ true → nat_abs d ≤ limit → nat_abs n ≤ limit → eqb (gcd (nat_abs n) (nat_abs d)) 1 ≡ sound n d
 unfolding sound

@@ -49,3 +49,6 @@ module _ (m : ℕ) (big : 1 < m) (a : ℕ) where
   pub inverse_absent : (gcd (a % m) m ≡ 1 → ⊥) → Err (fault Divisor 0 0) ≡ inverse_of (residue_arith m big) a
   unfolding inverse_of residue_arith
   inverse_absent d = sym (ap (inverted (λ (r : Residue m). r.0)) (inv_not_coprime m big (class m big a) d))
+
+-- what the calls of the residues answer
+pub ruleset residue_calls = (sum_is, product_is, negation_zero, negation_other, zero_is, whole_is, inverse_found, inverse_absent)

@@ -1,7 +1,7 @@
 -- The ring's own tests, as the code makes them.
 use Rattle.std.proofs.Common.{◌≡◌, Bool, true, false, cond, Err, sym, refl, ap, ◌∙◌}
 use Rattle.std.proofs.lemmas.Bool.{cond-true, cond-false}
-use Rattle.algebra.specs.Rationals.{ℚ, rationals, zeroℚ, invert}
+use Rattle.algebra.specs.Rationals.{ℚ, rationals, zeroℚ, invert, nat_ratio}
 use Rattle.kinds.specs.declared.fault.Question.TheVariants.{Range}
 use Rattle.kinds.specs.Faults.{fault}
 use Rattle.kinds.specs.Arith.{tested, inverted}
@@ -30,3 +30,6 @@ inverse_told q = cases (is_zero q) refl
         cond-true _ _ _ e ∙ ap (inverted put) (sym (inverse_is q ∙ cond-true _ _ _ e)) ∙ sym (cond-false _ _ _ (ap (λ x. outside (invert x)) (zero_is q e) ∙ zero_turned))
     cases false e =
         cond-false _ _ _ e ∙ ap (λ i. cond (outside (invert q)) (Err (fault Range 0 0)) (inverted put i)) (sym (inverse_is q ∙ cond-false _ _ _ e))
+
+-- how the kind of the fractions tests for zero, finds whole numbers and inverts
+pub ruleset kind_tests = (zero_decided, inverse_told, nat_ratio)

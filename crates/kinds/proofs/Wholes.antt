@@ -1,5 +1,5 @@
 -- Sums and products with whole numbers, and sums over one denominator.
-use Rattle.std.proofs.Common.{◌≡◌, ℕ, ◌*◌, ◌/◌, ◌<◌, ◌≤◌, false, ℤ, pos, ◌+ℤ◌, ◌*ℤ◌, neg_ℤ, nat_abs, ◌<ℤ◌, Ok, Result, sym, ap, ◌∙◌, subst, ap₂, subst₂, zero-lt-suc, mul-pos, mul-one, arith, w64, SFits}
+use Rattle.std.proofs.Common.{◌≡◌, ℕ, ◌*◌, ◌/◌, ◌<◌, ◌≤◌, false, ℤ, pos, ◌+ℤ◌, ◌*ℤ◌, neg_ℤ, nat_abs, ◌<ℤ◌, Ok, Result, sym, ap, ◌∙◌, subst, ap₂, subst₂, zero-lt-suc, mul-pos, mul-one, arith, w64, of_z}
 use Prim.Native.Nat.{◌∣◌}
 use native.Mathlib.Nat.{dvd-mul_left, div-mul_cancel, eq-one_of_dvd-one}
 use lib.Signed.{quot_z}
@@ -16,7 +16,7 @@ use Rattle.kinds.specs.Fractions.{Answer, New, value}
 use Rattle.kinds.specs.Sound.{sound_inside}
 use Rattle.kinds.specs.Meanings.{zero_inside}
 use Rattle.kinds.proofs.Held.{sound_of}
-use Rattle.kinds.proofs.Bounds.{square, bits_of, back, back_product, fits_within, abs_product, abs_sum, told}
+use Rattle.kinds.proofs.Bounds.{square, bits_of, back, back_product, fits_within, abs_product, abs_sum, told, fits_product, fits_sum, sum_told, product_told}
 
 -- ---- over numbers without limit
 
@@ -61,9 +61,6 @@ module _ (a c b : ℤ) (ha : nat_abs a ≤ limit) (hc : nat_abs c ≤ limit) (hb
   large : nat_abs (a +ℤ c *ℤ b) ≤ 2 * square
   large = abs_sum a (c *ℤ b) (omega arith) (abs_product c b hc hb)
 
-  pub fits_shift : SFits w64 (bits_of a +ℤ bits_of (bits_of c *ℤ bits_of b))
-  fits_shift = subst (SFits w64) (sym around) (fits_within (a +ℤ c *ℤ b) large)
-
   pub back_shift : bits_of (bits_of a +ℤ bits_of (bits_of c *ℤ bits_of b)) ≡ a +ℤ c *ℤ b
   back_shift = ap bits_of around ∙ back (a +ℤ c *ℤ b) large
 
@@ -80,65 +77,59 @@ module _ (f : Fraction) where
   unfolding value
   inside = sound_inside f.num f.den (sound_of f)
 
-  module _ (c : ℤ) (hc : nat_abs c ≤ limit) where
-    moved : bits_of (bits_of f.num +ℤ bits_of (bits_of c *ℤ bits_of f.den)) ≡ f.num +ℤ c *ℤ f.den
-    moved = back_shift f.num c f.den f.small hc f.low
-
-    pub shift_lowest : (pos 0 <ℤ bits_of f.den) × ((nat_abs (bits_of f.den) ≤ limit) × (gcd (nat_abs (bits_of (bits_of f.num +ℤ bits_of (bits_of c *ℤ bits_of f.den)))) (nat_abs (bits_of f.den)) ≡ 1))
-    shift_lowest =
-        subst₂ (λ n d. (pos 0 <ℤ d) × ((nat_abs d ≤ limit) × (gcd (nat_abs n) (nat_abs d) ≡ 1))) (sym moved) (sym small_den)
-        (f.some, (f.low, subst (λ t. gcd (nat_abs (f.num +ℤ c *ℤ t)) (nat_abs f.den) ≡ 1) (sym (sound_of f).whole) (still_coprime f.num c (nat_abs f.den) f.coprime)))
-
-    pub shift_told : (r : Result Fraction Fault) → Answer (ratio (bits_of (bits_of f.num +ℤ bits_of (bits_of c *ℤ bits_of f.den))) (bits_of f.den)) r → Answer (addℚ (value f) (ratio c (pos 1))) r
-    unfolding value
-    shift_told r a =
-        subst (λ q. Answer q r)
-        (ap₂ ratio moved small_den ∙ subst (λ t. ratio (f.num +ℤ c *ℤ t) t ≡ addℚ (ratio f.num t) (ratio c (pos 1))) (sym (sound_of f).whole) (whole_sum f.num c (nat_abs f.den) (sound_of f).some))
-        a
-
-    pub scale_told : (r : Result Fraction Fault) → New (bits_of (bits_of f.num *ℤ bits_of c)) (bits_of f.den) r → Answer (mulℚ (value f) (ratio c (pos 1))) r
-    unfolding value
-    scale_told r a =
-        subst (λ q. Answer q r)
-        (subst (λ t. ratio (f.num *ℤ c) t ≡ mulℚ (ratio f.num t) (ratio c (pos 1))) (sym (sound_of f).whole) (whole_product f.num c (nat_abs f.den) (sound_of f).some))
-        (told (f.num *ℤ c) f.den r (sound_of f).some (subst₂ (λ n d. New n d r) (back_product f.num c f.small hc) small_den a))
-
-  pub times_zero : (c : ℤ) (g : Fraction) → c ≡ pos 0 → value g ≡ ratio (pos 0) (pos 1) → Answer (mulℚ (value f) (ratio c (pos 1))) (Ok g)
-  unfolding rationals
-  times_zero c g e v =
-      let z = ap (λ t. mulℚ (value f) (ratio t (pos 1))) e ∙ ap (mulℚ (value f)) zero_ratio ∙ Laws.mul_zero rationals (value f) in
-      (ap outside z ∙ zero_inside, v ∙ zero_ratio ∙ sym z)
-
-  pub times_one : (c : ℤ) → c ≡ pos 1 → Answer (mulℚ (value f) (ratio c (pos 1))) (Ok f)
-  times_one c e =
-      let z = ap (λ t. mulℚ (value f) (ratio t (pos 1))) e ∙ ap (mulℚ (value f)) one_ratio ∙ mul_oneℚ (value f) in
-      (ap outside z ∙ inside, sym z)
-
-  -- a fraction over one is a whole number
-  whole_value : f.den ≡ pos 1 → ratio (bits_of f.num) (pos 1) ≡ value f
+-- w is a whole number
+module _ (f w : Fraction) (e : w.den ≡ pos 1) where
+  worth : ratio w.num (pos 1) ≡ value w
   unfolding value
-  whole_value e = ap₂ ratio small_num (sym e)
+  worth = ap (ratio w.num) (sym e)
 
-module _ (f g : Fraction) (r : Result Fraction Fault) where
-  pub plus_right : g.den ≡ pos 1 → Answer (addℚ (value f) (ratio (bits_of g.num) (pos 1))) r → Answer (addℚ (value f) (value g)) r
-  plus_right e a = subst (λ q. Answer (addℚ (value f) q) r) (whole_value g e) a
+  moved : bits_of (bits_of f.num +ℤ bits_of (bits_of w.num *ℤ bits_of f.den)) ≡ f.num +ℤ w.num *ℤ f.den
+  moved = back_shift f.num w.num f.den f.small w.small f.low
 
-  pub plus_left : f.den ≡ pos 1 → Answer (addℚ (value g) (ratio (bits_of f.num) (pos 1))) r → Answer (addℚ (value f) (value g)) r
-  plus_left e a = subst (λ q. Answer q r) (ap (addℚ (value g)) (whole_value f e) ∙ add_comm (value g) (value f)) a
+  pub shift_lowest : (pos 0 <ℤ bits_of f.den) × ((nat_abs (bits_of f.den) ≤ limit) × (gcd (nat_abs (bits_of (bits_of f.num +ℤ bits_of (bits_of w.num *ℤ bits_of f.den)))) (nat_abs (bits_of f.den)) ≡ 1))
+  shift_lowest =
+      subst₂ (λ n d. (pos 0 <ℤ d) × ((nat_abs d ≤ limit) × (gcd (nat_abs n) (nat_abs d) ≡ 1))) (sym moved) (sym (small_den f))
+      (f.some, (f.low, subst (λ t. gcd (nat_abs (f.num +ℤ w.num *ℤ t)) (nat_abs f.den) ≡ 1) (sym (sound_of f).whole) (still_coprime f.num w.num (nat_abs f.den) f.coprime)))
 
-  pub times_right : g.den ≡ pos 1 → Answer (mulℚ (value f) (ratio (bits_of g.num) (pos 1))) r → Answer (mulℚ (value f) (value g)) r
-  times_right e a = subst (λ q. Answer (mulℚ (value f) q) r) (whole_value g e) a
-
-  pub times_left : f.den ≡ pos 1 → Answer (mulℚ (value g) (ratio (bits_of f.num) (pos 1))) r → Answer (mulℚ (value f) (value g)) r
-  times_left e a = subst (λ q. Answer q r) (ap (mulℚ (value g)) (whole_value f e) ∙ mul_comm (value g) (value f)) a
-
-  pub plus_over : f.den ≡ g.den → New (bits_of (bits_of f.num +ℤ bits_of g.num)) (bits_of f.den) r → Answer (addℚ (value f) (value g)) r
+  pub shift_told : (r : Result Fraction Fault) → Answer (ratio (bits_of (bits_of f.num +ℤ bits_of (bits_of w.num *ℤ bits_of f.den))) (bits_of f.den)) r → Answer (addℚ (value f) (value w)) r
   unfolding value
-  plus_over e a =
-      let x = f.small in
-      let y = g.small in
-      let n = ap bits_of (ap₂ ◌+ℤ◌ (small_num f) (small_num g)) ∙ back (f.num +ℤ g.num) (omega (arith, ints)) in
+  shift_told r a =
       subst (λ q. Answer q r)
-      (subst (λ t. ratio (f.num +ℤ g.num) t ≡ addℚ (ratio f.num t) (ratio g.num t)) (sym (sound_of f).whole) (same_sum f.num g.num (nat_abs f.den) (sound_of f).some)
-      ∙ ap (λ t. addℚ (ratio f.num f.den) (ratio g.num t)) e)
-      (told (f.num +ℤ g.num) f.den r (sound_of f).some (subst₂ (λ n d. New n d r) n (small_den f) a))
+      (ap₂ ratio moved (small_den f) ∙ subst (λ t. ratio (f.num +ℤ w.num *ℤ t) t ≡ addℚ (ratio f.num t) (ratio w.num (pos 1))) (sym (sound_of f).whole) (whole_sum f.num w.num (nat_abs f.den) (sound_of f).some)
+      ∙ ap (addℚ (value f)) worth)
+      a
+
+  pub scale_told : (r : Result Fraction Fault) → New (bits_of (bits_of f.num *ℤ bits_of w.num)) (bits_of f.den) r → Answer (mulℚ (value f) (value w)) r
+  unfolding value
+  scale_told r a =
+      subst (λ q. Answer q r)
+      (subst (λ t. ratio (f.num *ℤ w.num) t ≡ mulℚ (ratio f.num t) (ratio w.num (pos 1))) (sym (sound_of f).whole) (whole_product f.num w.num (nat_abs f.den) (sound_of f).some)
+      ∙ ap (mulℚ (value f)) worth)
+      (told (f.num *ℤ w.num) f.den r (sound_of f).some (subst₂ (λ n d. New n d r) (back_product f.num w.num f.small w.small) (small_den f) a))
+
+  pub times_zero : w.num ≡ pos 0 → Answer (mulℚ (value f) (value w)) (Ok w)
+  unfolding rationals
+  times_zero z =
+      let v : value w ≡ rationals.𝟘 = sym worth ∙ ap (λ t. ratio t (pos 1)) z ∙ zero_ratio in
+      let p : mulℚ (value f) (value w) ≡ rationals.𝟘 = ap (mulℚ (value f)) v ∙ Laws.mul_zero rationals (value f) in
+      (ap outside p ∙ zero_inside, v ∙ sym p)
+
+  pub times_one : w.num ≡ pos 1 → Answer (mulℚ (value f) (value w)) (Ok f)
+  times_one z =
+      let p : mulℚ (value f) (value w) ≡ value f = ap (mulℚ (value f)) (sym worth ∙ ap (λ t. ratio t (pos 1)) z ∙ one_ratio) ∙ mul_oneℚ (value f) in
+      (ap outside p ∙ inside f, sym p)
+
+pub plus_over : (f g : Fraction) (r : Result Fraction Fault) → of_z w64 f.den ≡ of_z w64 g.den → New (bits_of (bits_of f.num +ℤ bits_of g.num)) (bits_of f.den) r → Answer (addℚ (value f) (value g)) r
+unfolding value
+plus_over f g r b a =
+    let x = f.small in
+    let y = g.small in
+    let e : f.den ≡ g.den = omega (arith, ints) in
+    let n = ap bits_of (ap₂ ◌+ℤ◌ (small_num f) (small_num g)) ∙ back (f.num +ℤ g.num) (omega (arith, ints)) in
+    subst (λ q. Answer q r)
+    (subst (λ t. ratio (f.num +ℤ g.num) t ≡ addℚ (ratio f.num t) (ratio g.num t)) (sym (sound_of f).whole) (same_sum f.num g.num (nat_abs f.den) (sound_of f).some)
+    ∙ ap (λ t. addℚ (ratio f.num f.den) (ratio g.num t)) e)
+    (told (f.num +ℤ g.num) f.den r (sound_of f).some (subst₂ (λ n d. New n d r) n (small_den f) a))
+
+-- what sums and products of fractions compute
+pub ruleset fraction_calls = (fits_product, fits_sum, sum_told, product_told, plus_over, shift_lowest, shift_told, scale_told, add_comm, mul_comm)

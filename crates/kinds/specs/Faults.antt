@@ -1,5 +1,5 @@
 -- Faults: for each question the case of its fault, its number, and the values that it tells.
-use Rattle.std.specs.Prelude.{ℕ, ◌+◌, cond, nat_lt}
+use Rattle.std.specs.Prelude.{ℕ, ◌+◌, cond, List, ◌∷◌, ◌++◌, decimal, nat_lt}
 use Rattle.kinds.specs.declared.fault.Question.{Question}
 use Rattle.kinds.specs.declared.fault.Question.TheVariants.{Dimension, Agreement, Order, Lift, Modulus, Denominator, Memory, Tables, Terms, Monomial, Degree, Range, Divisor, Form}
 use Rattle.kinds.specs.declared.fault.Refusal.{Refusal}
@@ -36,6 +36,10 @@ abbrev pub with_told : Fault → Refusal → Fault
 with_told (Input _) r = Input r
 with_told (Size _) r = Size r
 with_told (Inverse _) r = Inverse r
+
+-- what is printed for a refusal: its three numbers, parted by single spaces
+abbrev pub refusal_text : Refusal → List ℕ
+refusal_text r = decimal r.number ++ (32 ∷ (decimal r.depth ++ (32 ∷ decimal r.place)))
 
 -- the same fault at another place
 abbrev pub at_place : ℕ → Fault → Fault

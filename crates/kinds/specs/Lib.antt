@@ -4,6 +4,7 @@ pub mod Arith
 pub mod Bounded
 pub mod Fractions
 pub mod Pairs
+pub mod Texts
 pub mod Residues
 pub mod FractionArith
 pub mod ResidueArith

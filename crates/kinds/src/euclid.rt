@@ -5,12 +5,9 @@ ghost use Rattle.algebra.specs.Gcd.{gcd};
 pub(crate) fn common_divisor(a: u64, b: u64) -> u64
     ensures { result ≡ gcd a b }
 {
-    let mut x = a;
-    let mut y = b;
+    let (mut x, mut y) = (a, b);
     while y != 0 {
-        let rest = x % y;
-        x = y;
-        y = rest;
+        (x, y) = (y, x % y);
     }
     x
 }
@@ -20,19 +17,13 @@ pub(crate) fn inverse_modulo(a: u64, m: u64) -> Option<u64>
     requires { (1 < m) × ((m ≤ 2147483647) × (a < m)) }
     ensures { MatchOption result (gcd a m ≢ 1) (λ s. (s < m) × ((a * s) % m ≡ 1)) }
 {
-    let mut x = m;
-    let mut y = a;
+    let (mut x, mut y) = (m, a);
     // s times a leaves x, and t times a leaves y
-    let mut s = 0;
-    let mut t = 1;
+    let (mut s, mut t) = (0, 1);
     while y != 0 {
         let q = x / y;
-        let rest = x % y;
-        let next = (s + q * (m - t)) % m;
-        x = y;
-        y = rest;
-        s = t;
-        t = next;
+        (x, y) = (y, x % y);
+        (s, t) = (t, (s + q * (m - t)) % m);
     }
     if x == 1 { Some(s) } else { None }
 }

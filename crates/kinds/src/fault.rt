@@ -1,26 +1,29 @@
-ghost use Rattle.std.specs.Prelude.{◌≡◌};
-ghost use Rattle.kinds.specs.Faults.{fault, at_place, deepened, told, with_told};
+ghost use Rattle.std.specs.Prelude.{◌≡◌, Some};
+ghost use Rattle.kinds.specs.Faults.{fault, at_place, deepened, refusal_text, told, with_told};
 
-// The questions that a call can be refused under, in the order of their numbers, from 1.
-#[derive(Clone, Copy)]
+use std::error::Error;
+use std::fmt;
+
+// The questions that a call can be refused under, by their numbers.
+#[derive(Clone, Copy, PartialEq, Eq, Debug)]
 pub enum Question {
-    Dimension,
-    Agreement,
-    Order,
-    Lift,
-    Modulus,
-    Denominator,
-    Memory,
-    Tables,
-    Terms,
-    Monomial,
-    Degree,
-    Range,
-    Divisor,
-    Form,
+    Dimension = 1,
+    Agreement = 2,
+    Order = 3,
+    Lift = 4,
+    Modulus = 5,
+    Denominator = 6,
+    Memory = 7,
+    Tables = 8,
+    Terms = 9,
+    Monomial = 10,
+    Degree = 11,
+    Range = 12,
+    Divisor = 13,
+    Form = 14,
 }
 
-// What a refusal tells: the number of the question, how many layers lie above the operator that failed, and where.
+// What a refusal tells, and prints, as three numbers: that of the question, how many layers lie above the operator that failed, and where.
 #[derive(Clone, Copy, PartialEq, Eq, Debug)]
 pub struct Refusal {
     pub number: u8,
@@ -35,45 +38,22 @@ pub enum Fault {
     Inverse(Refusal),
 }
 
-impl Question {
-    fn number(self) -> u8
-        ensures { result ≡ (told (fault self 0 0)).number }
-    {
-        match self {
-            Question::Dimension => 1,
-            Question::Agreement => 2,
-            Question::Order => 3,
-            Question::Lift => 4,
-            Question::Modulus => 5,
-            Question::Denominator => 6,
-            Question::Memory => 7,
-            Question::Tables => 8,
-            Question::Terms => 9,
-            Question::Monomial => 10,
-            Question::Degree => 11,
-            Question::Range => 12,
-            Question::Divisor => 13,
-            Question::Form => 14,
-        }
-    }
-}
-
 impl Fault {
     // The fault of a question answered with no, at a place, in the outermost operator.
     pub fn no(question: Question, place: u64) -> Fault
         ensures { result ≡ fault question 0 place }
     {
         let refusal = Refusal {
-            number: question.number(),
+            number: question as u8,
             depth: 0,
             place,
         };
         match question {
-            Question::Memory => Fault::Size(refusal),
-            Question::Tables => Fault::Size(refusal),
-            Question::Terms => Fault::Size(refusal),
-            Question::Degree => Fault::Size(refusal),
-            Question::Range => Fault::Size(refusal),
+            Question::Memory
+            | Question::Tables
+            | Question::Terms
+            | Question::Degree
+            | Question::Range => Fault::Size(refusal),
             Question::Divisor => Fault::Inverse(refusal),
             _ => Fault::Input(refusal),
         }
@@ -83,9 +63,7 @@ impl Fault {
         ensures { result ≡ told self }
     {
         match self {
-            Fault::Input(r) => r,
-            Fault::Size(r) => r,
-            Fault::Inverse(r) => r,
+            Fault::Input(r) | Fault::Size(r) | Fault::Inverse(r) => r,
         }
     }
 
@@ -94,11 +72,7 @@ impl Fault {
         ensures { result ≡ at_place place self }
     {
         let r = self.refusal();
-        self.telling(Refusal {
-            number: r.number,
-            depth: r.depth,
-            place,
-        })
+        self.telling(Refusal { place, ..r })
     }
 
     // The same fault as seen from the layer above; the depth stops at the largest number.
@@ -107,12 +81,13 @@ impl Fault {
     {
         let r = self.refusal();
         self.telling(Refusal {
-            number: r.number,
             depth: r.depth.saturating_add(1),
-            place: r.place,
+            ..r
         })
     }
 
+    // The same case with another refusal. It takes the refusal, and no function on it: of a closure it would have to ask that
+    // it may be called, and its callers would have to learn what it answered.
     fn telling(self, refusal: Refusal) -> Fault
         ensures { result ≡ with_told self refusal }
     {
@@ -123,3 +98,27 @@ impl Fault {
         }
     }
 }
+
+impl fmt::Display for Refusal {
+    ghost output = { λ r. Some (refusal_text r) };
+
+    fn fmt<W: fmt::Write>(&self, f: &mut fmt::Formatter<W>) -> fmt::Result {
+        let Refusal {
+            number,
+            depth,
+            place,
+        } = *self;
+        write!(f, "{number} {depth} {place}")
+    }
+}
+
+impl fmt::Display for Fault {
+    ghost output = { λ f. Some (refusal_text (told f)) };
+
+    fn fmt<W: fmt::Write>(&self, f: &mut fmt::Formatter<W>) -> fmt::Result {
+        let refusal = self.refusal();
+        write!(f, "{refusal}")
+    }
+}
+
+impl Error for Fault {}

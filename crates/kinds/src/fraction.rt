@@ -1,7 +1,10 @@
 ghost use Rattle.std.specs.Prelude.{◌≡◌, ◌≤◌, pos, ◌<ℤ◌, unsigned_abs};
 ghost use Rattle.algebra.specs.Gcd.{gcd};
 
+mod convert;
 pub mod ops;
+
+const LIMIT: u64 = 2147483647;
 
 // A rational number in lowest terms, whose numerator and denominator have at most 31 bits; the sign is the numerator's.
 #[derive(Clone, Copy)]

@@ -1,10 +1,7 @@
-ghost use Rattle.std.specs.Prelude.{◌≡◌};
-ghost use Rattle.algebra.specs.Rationals.{addℚ, mulℚ, negℚ};
-ghost use Rattle.kinds.specs.Bounded.{is_zero};
-ghost use Rattle.kinds.specs.Pairs.{mean, put, written, written_inverse};
+ghost use Rattle.std.specs.Prelude.{Some};
+ghost use Rattle.kinds.specs.Texts.{pair_text};
 
-use crate::fault::Fault;
-use crate::fraction::Fraction;
+use std::fmt;
 
 // A fraction as plain numbers, which may be any: a pair that is no fraction in lowest terms within the limit means zero.
 #[derive(Clone, Copy, PartialEq, Eq, Debug)]
@@ -13,35 +10,11 @@ pub struct Pair {
     pub den: i64,
 }
 
-pub(crate) fn sum(a: Pair, b: Pair) -> Result<Pair, Fault>
-    ensures { result ≡ written (addℚ (mean a) (mean b)) }
-{
-    let z = Fraction::read(a).plus(Fraction::read(b))?;
-    Ok(z.pair())
-}
+impl fmt::Display for Pair {
+    ghost output = { λ p. Some (pair_text p) };
 
-pub(crate) fn product(a: Pair, b: Pair) -> Result<Pair, Fault>
-    ensures { result ≡ written (mulℚ (mean a) (mean b)) }
-{
-    let z = Fraction::read(a).times(Fraction::read(b))?;
-    Ok(z.pair())
-}
-
-pub(crate) fn negated(a: Pair) -> Pair
-    ensures { result ≡ put (negℚ (mean a)) }
-{
-    Fraction::read(a).minus().pair()
-}
-
-pub(crate) fn is_nothing(a: Pair) -> bool
-    ensures { result ≡ is_zero (mean a) }
-{
-    Fraction::read(a).is_zero()
-}
-
-pub(crate) fn inverted(a: Pair) -> Result<Pair, Fault>
-    ensures { result ≡ written_inverse (mean a) }
-{
-    let z = Fraction::read(a).inverse()?;
-    Ok(z.pair())
+    fn fmt<W: fmt::Write>(&self, f: &mut fmt::Formatter<W>) -> fmt::Result {
+        let Pair { num, den } = *self;
+        write!(f, "{num} {den}")
+    }
 }

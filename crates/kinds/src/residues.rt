@@ -20,13 +20,14 @@ impl Residues {
     pub fn new(modulus: u32) -> Result<Residues, Fault>
         ensures { MatchResult result (λ k. (is_modulus modulus ≡ true) × (k.modulus ≡ modulus)) (λ e. (is_modulus modulus ≡ false) × (e ≡ no_modulus)) }
     {
-        if modulus < 2 || modulus > LARGEST {
-            return Err(Fault::no(Question::Modulus, 0));
+        match modulus {
+            2..=LARGEST => Ok(Residues { modulus }),
+            _ => Err(Fault::no(Question::Modulus, 0)),
         }
-        Ok(Residues { modulus })
     }
 }
 
+#[tactic(auto, using(crate::proofs::Modular::residue_calls))]
 impl Kind for Residues {
     type Value = u32;
 
@@ -56,9 +57,8 @@ impl Kind for Residues {
     }
 
     fn inverse(&self, a: u32) -> Result<u32, Fault> {
-        match inverse_modulo((a % self.modulus) as u64, self.modulus as u64) {
-            Some(s) => Ok(s as u32),
-            None => Err(Fault::no(Question::Divisor, 0)),
-        }
+        inverse_modulo((a % self.modulus) as u64, self.modulus as u64)
+            .map(|s| s as u32)
+            .ok_or(Fault::no(Question::Divisor, 0))
     }
 }

@@ -1,26 +1,48 @@
-ghost use Rattle.std.specs.Prelude.{◌≡◌, ◌+◌, ◌-◌, ◌*◌, ◌<◌, ◌≤◌, length, None};
-ghost use Rattle.operators.specs.Piles.{leaf_outside};
-ghost use Rattle.operators.specs.Rooms.{tables_of};
+ghost use Rattle.std.specs.Prelude.{◌≡◌, ◌+◌, ◌-◌, ◌*◌, ◌/◌, ◌≤◌, not, length, None};
+ghost use Rattle.kinds.specs.Arith.{whole_of};
+ghost use Rattle.monomials.specs.Dimensions.{size_of};
+ghost use Rattle.tables.specs.Steps.{Past};
+ghost use Rattle.operators.specs.Piles.{leaf_outside, no_if};
+ghost use Rattle.operators.specs.Rooms.{tables_of, roomy, Untouched};
 
 use crate::matrix::{Symmetric, inverted};
-use crate::quadratic::{Reading, quadratic};
+use crate::quadratic::quadratic;
 use kinds::fault::{Fault, Question};
 use kinds::kind::Kind;
 use monomials::dimension::Dimension;
+use monomials::monomial::Axis;
 use operators::operator::{Forward, Solvable};
-use operators::questions::{
-    SIMPLE_NEED, degree_asked, leaf_dimension, pile_asked, room_asked, settled,
-};
+use operators::questions::{SIMPLE_NEED, degree_asked, leaf_dimension, room_asked};
 use operators::shape::{Lifting, Shape};
-use tables::degree::is_zero;
-use tables::moves::part;
-use tables::steps::{add_into, clear, copy, multiply, negate};
+use tables::steps::{clear, copy};
+use tables::tables::Tables;
 
 // The second derivatives, weighted by a symmetric matrix.
 #[derive(Clone, Copy)]
 pub struct Laplacian<V> {
     pub dimension: u64,
     pub matrix: Symmetric<V>,
+}
+
+// The Laplacian of the unit matrix.
+pub fn isotropic<K: Kind>(k: &K, dimension: u64) -> Laplacian<K::Value>
+    ensures dimension { result.dimension ≡ dimension }
+    ensures diagonal { (result.matrix.xx ≡ whole_of (K.Kind.arith k.now) 1) × ((result.matrix.yy ≡ whole_of (K.Kind.arith k.now) 1) × (result.matrix.zz ≡ whole_of (K.Kind.arith k.now) 1)) }
+    ensures others { (result.matrix.xy ≡ whole_of (K.Kind.arith k.now) 0) × ((result.matrix.xz ≡ whole_of (K.Kind.arith k.now) 0) × (result.matrix.yz ≡ whole_of (K.Kind.arith k.now) 0)) }
+{
+    let zero = k.whole(0);
+    let one = k.whole(1);
+    Laplacian {
+        dimension,
+        matrix: Symmetric {
+            xx: one,
+            xy: zero,
+            xz: zero,
+            yy: one,
+            yz: zero,
+            zz: one,
+        },
+    }
 }
 
 // The divisor 2(l + 1)(2n - 2l + d) of the l-th term for a homogeneous part of degree n.
@@ -31,24 +53,6 @@ fn divisor(d: u8, n: usize, l: usize) -> u8
     (2 * (l + 1) * (2 * n - 2 * l + d as usize)) as u8
 }
 
-// The inverses of all divisors for a part of degree n, by rising l, at the front of `inverses`.
-fn invert_divisors<K: Kind>(
-    k: &K,
-    dimension: Dimension,
-    n: usize,
-    inverses: &mut [K::Value],
-) -> Result<(), Fault>
-    requires { (n ≤ 10) × (6 ≤ length inverses.old) }
-{
-    for l in 0..n / 2 + 1 {
-        match k.inverse(k.whole(divisor(dimension.number(), n, l))) {
-            Ok(v) => inverses[l] = v,
-            Err(e) => return Err(divisor_fault(e, n)),
-        }
-    }
-    Ok(())
-}
-
 // That a divisor has no inverse is told with the degree of the part; other refusals of values outside a table have no place.
 fn divisor_fault(e: Fault, n: usize) -> Fault {
     match e {
@@ -57,166 +61,95 @@ fn divisor_fault(e: Fault, n: usize) -> Fault {
     }
 }
 
-// The table `w` times the quadratic form of the inverse matrix, l + 1 times over, joins the target.
-fn join_power<K: Kind>(
-    k: &K,
-    dimension: Dimension,
+// The factors of the terms for a part of degree n, which are the inverses of its divisors, by rising l.
+fn form_factors<K: Kind>(
+    tables: Tables<'_, K>,
+    n: usize,
+    factors: &mut [K::Value],
+) -> Result<(), Fault>
+    requires degree { n ≤ 10 }
+    requires count { length factors.old ≡ n / 2 + 1 }
+{
+    for (l, factor) in factors.iter_mut().enumerate() {
+        let whole = tables.kind.whole(divisor(tables.dimension.into(), n, l));
+        *factor = tables.kind.inverse(whole).map_err(|e| divisor_fault(e, n))?;
+    }
+    Ok(())
+}
+
+// The action of the matrix's Laplacian on the table `from`, into `to`; it is formed in `one` and `two`. The tables of this file
+// are slices of their own, as `operators::operator` says.
+fn act_on<K: Kind>(
+    tables: Tables<'_, K>,
+    matrix: &Symmetric<K::Value>,
+    from: &[K::Value],
+    to: &mut [K::Value],
+    one: &mut [K::Value],
+    two: &mut [K::Value],
+) -> Result<(), Fault>
+    ensures { Past (size_of tables.entry.dimension) to.old to.new }
+{
+    let moved = |axis: Axis, from: &[K::Value], to: &mut [K::Value]| tables.derivative(
+        axis, from, to,
+    );
+    quadratic(tables, moved, matrix, from, to, one, two)
+}
+
+// The table `from` times the form of the inverse matrix in the coordinates, into `to`; it is formed in `one` and `two`.
+fn times_form<K: Kind>(
+    tables: Tables<'_, K>,
     inverse: &Symmetric<K::Value>,
-    l: usize,
-    w: &[K::Value],
+    from: &[K::Value],
+    to: &mut [K::Value],
+    one: &mut [K::Value],
+    two: &mut [K::Value],
+) -> Result<(), Fault>
+    ensures { Past (size_of tables.entry.dimension) to.old to.new }
+{
+    let moved = |axis: Axis, from: &[K::Value], to: &mut [K::Value]| {
+        tables.shift(axis, from, to);
+        Ok(())
+    };
+    quadratic(tables, moved, inverse, from, to, one, two)
+}
+
+// The solution for one homogeneous part, which `w` holds, joins the target: a term for each of its factors. The l-th is minus
+// the action on the one before, times its factor, and joins after l + 1 products with the form of the inverse matrix.
+fn join_terms<K: Kind>(
+    tables: Tables<'_, K>,
+    matrix: &Symmetric<K::Value>,
+    inverse: &Symmetric<K::Value>,
+    factors: &[K::Value],
+    w: &mut [K::Value],
     target: &mut [K::Value],
     work: &mut [K::Value],
 ) -> Result<(), Fault>
-    requires { (l ≤ 5) × (tables_of dimension 4 ≤ length work.old) }
+    requires { tables_of tables.dimension 4 ≤ length work.old }
+    ensures { Past (size_of tables.entry.dimension) target.old target.new }
 {
-    let size = dimension.size();
+    let size = tables.size();
     let (power, rest) = work.split_at_mut(size);
     let (next, rest) = rest.split_at_mut(size);
     let (one, two) = rest.split_at_mut(size);
-    copy(size, w, power);
-    for _i in 0..l + 1 {
-        quadratic(
-            k,
-            dimension,
-            Reading::Coordinate,
-            inverse,
-            power,
-            next,
-            one,
-            two,
-        )?;
-        copy(size, next, power);
-    }
-    add_into(k, dimension, target, power)
-}
-
-// The next term: minus the action on the last one, divided.
-fn advance<K: Kind>(
-    k: &K,
-    dimension: Dimension,
-    matrix: &Symmetric<K::Value>,
-    by: K::Value,
-    w: &mut [K::Value],
-    work: &mut [K::Value],
-) -> Result<(), Fault>
-    requires { tables_of dimension 4 ≤ length work.old }
-{
-    let size = dimension.size();
-    let (next, rest) = work.split_at_mut(size);
-    let (one, two) = rest.split_at_mut(size);
-    quadratic(k, dimension, Reading::Derivative, matrix, w, next, one, two)?;
-    negate(k, dimension, next);
-    multiply(k, dimension, next, by)?;
-    copy(size, next, w);
-    Ok(())
-}
-
-// The terms for one homogeneous part, which `w` holds, all divisors being inverted.
-fn join_terms<K: Kind>(
-    k: &K,
-    dimension: Dimension,
-    matrices: (&Symmetric<K::Value>, &Symmetric<K::Value>),
-    n: usize,
-    inverses: &[K::Value],
-    w: &mut [K::Value],
-    target: &mut [K::Value],
-    work: &mut [K::Value],
-) -> Result<(), Fault>
-    requires { (n ≤ 10) × ((6 ≤ length inverses.now) × (tables_of dimension 4 ≤ length work.old)) }
-{
-    let (matrix, inverse) = matrices;
-    multiply(k, dimension, w, inverses[0])?;
-    join_power(k, dimension, inverse, 0, w, target, work)?;
-    for l in 1..n / 2 + 1 {
-        advance(k, dimension, matrix, inverses[l], w, work)?;
-        join_power(k, dimension, inverse, l, w, target, work)?;
+    for (l, factor) in factors.iter().enumerate() {
+        if l > 0 {
+            act_on(tables, matrix, w, next, one, two)?;
+            tables.negate(next);
+            copy(size, next, w);
+        }
+        tables.multiply(w, *factor)?;
+        copy(size, w, power);
+        for _ in 0..=l {
+            times_form(tables, inverse, power, next, one, two)?;
+            copy(size, next, power);
+        }
+        tables.add_into(target, power)?;
     }
     Ok(())
 }
 
-// The solution for the homogeneous part of degree n joins the target.
-fn join_part<K: Kind>(
-    k: &K,
-    dimension: Dimension,
-    matrices: (&Symmetric<K::Value>, &Symmetric<K::Value>),
-    n: usize,
-    source: &[K::Value],
-    target: &mut [K::Value],
-    work: &mut [K::Value],
-) -> Result<(), Fault>
-    requires { (n ≤ 10) × (tables_of dimension 6 ≤ length work.old) }
-{
-    let size = dimension.size();
-    let (w, rest) = work.split_at_mut(size);
-    let (inverses, rest) = rest.split_at_mut(size);
-    part(k, dimension, n, source, w);
-    if is_zero(k, dimension, w) {
-        return Ok(());
-    }
-    invert_divisors(k, dimension, n, inverses)?;
-    join_terms(k, dimension, matrices, n, inverses, w, target, rest)
-}
-
-fn join_parts<K: Kind>(
-    k: &K,
-    dimension: Dimension,
-    matrix: &Symmetric<K::Value>,
-    degree: usize,
-    source: &[K::Value],
-    target: &mut [K::Value],
-    work: &mut [K::Value],
-) -> Result<(), Fault>
-    requires { (degree ≤ 10) × (tables_of dimension 6 ≤ length work.old) }
-{
-    let inverse = inverted(k, dimension, matrix)?;
-    for n in 0..degree + 1 {
-        join_part(k, dimension, (matrix, &inverse), n, source, target, work)?;
-    }
-    Ok(())
-}
-
-// The solution, with its passes.
-fn solution<K: Kind>(
-    k: &K,
-    dimension: Dimension,
-    matrix: &Symmetric<K::Value>,
-    source: &[K::Value],
-    target: &mut [K::Value],
-    work: &mut [K::Value],
-) -> Result<u32, Fault>
-    requires { tables_of dimension 6 ≤ length work.old }
-{
-    clear(k, dimension.size(), target);
-    let Some(degree) = degree_asked(k, dimension, 2, source)? else {
-        return Ok(0);
-    };
-    join_parts(k, dimension, matrix, degree, source, target, work)?;
-    Ok(1)
-}
-
-fn action<K: Kind>(
-    k: &K,
-    dimension: Dimension,
-    matrix: &Symmetric<K::Value>,
-    source: &[K::Value],
-    target: &mut [K::Value],
-    work: &mut [K::Value],
-) -> Result<(), Fault>
-    requires { tables_of dimension 6 ≤ length work.old }
-{
-    let (one, two) = work.split_at_mut(dimension.size());
-    quadratic(
-        k,
-        dimension,
-        Reading::Derivative,
-        matrix,
-        source,
-        target,
-        one,
-        two,
-    )
-}
-
+// A constant answers the same but for the order and the lift. The two stay side by side: a struct for every operator that is
+// no layer would need a trait for its symbol, and one for each of `Lifting`, `Forward` and `Solvable` below it.
 impl<V: Copy> Shape for Laplacian<V> {
     ghost given = { λ o. o.dimension };
 
@@ -258,43 +191,66 @@ impl<V: Copy> Lifting for Laplacian<V> {
 }
 
 impl<V: Copy, K: Kind<Value = V>> Forward<K> for Laplacian<V> {
-    fn apply(
+    fn act(
         &self,
-        k: &K,
+        tables: Tables<'_, K>,
         source: &mut [V],
         target: &mut [V],
         work: &mut [V],
-    ) -> Result<(), Fault> {
-        let dimension = pile_asked(self)?;
+    ) -> Result<(), Fault>
+        ensures room { Untouched (no_if (not (roomy tables.entry.dimension 6 (length source.old) (length target.old) (length work.old))) Question.Tables) result source.old source.new target.old target.new work.old work.new }
+        ensures source { source.new ≡ source.old }
+        ensures past { Past (size_of tables.entry.dimension) target.old target.new }
+    {
         room_asked(
-            dimension,
+            tables.dimension,
             SIMPLE_NEED,
             source.len(),
             target.len(),
             work.len(),
         )?;
-        let answer = action(k, dimension, &self.matrix, source, target, work);
-        settled(k, dimension, SIMPLE_NEED, target, work, answer)
+        let (one, two) = work.split_at_mut(tables.size());
+        act_on(tables, &self.matrix, source, target, one, two)
     }
 }
 
 impl<V: Copy, K: Kind<Value = V>> Solvable<K> for Laplacian<V> {
-    fn solve(
+    // The solutions for the homogeneous parts are added up, by rising degree. Of the six tables the first holds the part and
+    // its terms, and the second its factors.
+    fn find(
         &self,
-        k: &K,
+        tables: Tables<'_, K>,
         source: &mut [V],
         target: &mut [V],
         work: &mut [V],
-    ) -> Result<u32, Fault> {
-        let dimension = pile_asked(self)?;
+    ) -> Result<u32, Fault>
+        ensures room { Untouched (no_if (not (roomy tables.entry.dimension 6 (length source.old) (length target.old) (length work.old))) Question.Tables) result source.old source.new target.old target.new work.old work.new }
+        ensures source { source.new ≡ source.old }
+        ensures past { Past (size_of tables.entry.dimension) target.old target.new }
+    {
         room_asked(
-            dimension,
+            tables.dimension,
             SIMPLE_NEED,
             source.len(),
             target.len(),
             work.len(),
         )?;
-        let answer = solution(k, dimension, &self.matrix, source, target, work);
-        settled(k, dimension, SIMPLE_NEED, target, work, answer)
+        let size = tables.size();
+        clear(tables.kind, size, target);
+        let Some(degree) = degree_asked(tables, 2, source)? else {
+            return Ok(0);
+        };
+        let inverse = inverted(tables, &self.matrix)?;
+        let (w, rest) = work.split_at_mut(size);
+        let (factors, rest) = rest.split_at_mut(size);
+        for n in 0..=degree {
+            tables.part(n, source, w);
+            if !tables.is_zero(w) {
+                let of_part = &mut factors[..n / 2 + 1];
+                form_factors(tables, n, of_part)?;
+                join_terms(tables, &self.matrix, &inverse, of_part, w, target, rest)?;
+            }
+        }
+        Ok(1)
     }
 }

@@ -1,119 +1,67 @@
-use crate::matrix::Symmetric;
+ghost use Rattle.std.specs.Prelude.{◌≡◌};
+ghost use Rattle.monomials.specs.Dimensions.{size_of};
+ghost use Rattle.tables.specs.Steps.{Past};
+
+use crate::matrix::{Symmetric, UPPER};
 use kinds::fault::Fault;
 use kinds::kind::Kind;
 use monomials::dimension::Dimension;
 use monomials::monomial::Axis;
-use monomials::monomial::Axis::{X, Y, Z};
-use tables::moves::{derivative, shift};
-use tables::steps::{add_into, clear, multiply};
+use tables::steps::clear;
+use tables::tables::Tables;
 
-// What the variables of a quadratic form stand for.
-#[derive(Clone, Copy)]
-pub(crate) enum Reading {
-    Derivative,
-    Coordinate,
+// Whether the dimension has the coordinate.
+fn spans(dimension: Dimension, axis: Axis) -> bool {
+    axis != Axis::Z || dimension == Dimension::Space
 }
 
-fn moved<K: Kind>(
-    k: &K,
-    dimension: Dimension,
-    reading: Reading,
-    axis: Axis,
+// One term of a form: the table `from` moved by two variables and times a value joins `to`. It is formed in `one` and `two`,
+// two slices and no struct, as `operators::operator` says of all tables.
+fn join_term<K: Kind, M: Fn(Axis, &[K::Value], &mut [K::Value]) -> Result<(), Fault>>(
+    tables: Tables<'_, K>,
+    moved: &M,
+    term: (Axis, Axis, K::Value),
     from: &[K::Value],
     to: &mut [K::Value],
-) -> Result<(), Fault> {
-    match reading {
-        Reading::Derivative => derivative(k, dimension, axis, from, to),
-        Reading::Coordinate => {
-            shift(k, dimension, axis, from, to);
-            Ok(())
+    one: &mut [K::Value],
+    two: &mut [K::Value],
+) -> Result<(), Fault>
+    requires { M.IsAlwaysCallable moved.now }
+    ensures { Past (size_of tables.entry.dimension) to.old to.new }
+{
+    let (first, second, value) = term;
+    moved(first, from, one)?;
+    moved(second, one, two)?;
+    tables.multiply(two, value)?;
+    tables.add_into(to, two)
+}
+
+// A quadratic form on the table `from`, into `to`, in variables that each move a table into another: its terms by rows of
+// the upper triangle, each formed and added before the next. A term off the diagonal stands for two: its value is added
+// to itself first.
+pub(crate) fn quadratic<K: Kind, M: Fn(Axis, &[K::Value], &mut [K::Value]) -> Result<(), Fault>>(
+    tables: Tables<'_, K>,
+    moved: M,
+    form: &Symmetric<K::Value>,
+    from: &[K::Value],
+    to: &mut [K::Value],
+    one: &mut [K::Value],
+    two: &mut [K::Value],
+) -> Result<(), Fault>
+    requires { M.IsAlwaysCallable moved }
+    ensures { Past (size_of tables.entry.dimension) to.old to.new }
+{
+    clear(tables.kind, tables.size(), to);
+    for (row, column) in UPPER {
+        if spans(tables.dimension, row) && spans(tables.dimension, column) {
+            let entry = form.entry(row, column);
+            let by = if row == column {
+                entry
+            } else {
+                tables.kind.sum(entry, entry)?
+            };
+            join_term(tables, &moved, (row, column, by), from, to, one, two)?;
         }
     }
-}
-
-// One term of a form: the table `from` moved by two variables and times a value joins `to`. It is formed in `one` and `two`.
-fn join_term<K: Kind>(
-    k: &K,
-    dimension: Dimension,
-    reading: Reading,
-    by: (Axis, Axis, K::Value),
-    from: &[K::Value],
-    to: &mut [K::Value],
-    one: &mut [K::Value],
-    two: &mut [K::Value],
-) -> Result<(), Fault> {
-    let (first, second, value) = by;
-    moved(k, dimension, reading, first, from, one)?;
-    moved(k, dimension, reading, second, one, two)?;
-    multiply(k, dimension, two, value)?;
-    add_into(k, dimension, to, two)
-}
-
-// A term off the diagonal stands for two: its value is added to itself first.
-fn join_mixed<K: Kind>(
-    k: &K,
-    dimension: Dimension,
-    reading: Reading,
-    by: (Axis, Axis, K::Value),
-    from: &[K::Value],
-    to: &mut [K::Value],
-    one: &mut [K::Value],
-    two: &mut [K::Value],
-) -> Result<(), Fault> {
-    let (first, second, value) = by;
-    let double = k.sum(value, value)?;
-    let twice = (first, second, double);
-    join_term(k, dimension, reading, twice, from, to, one, two)
-}
-
-fn join_space<K: Kind>(
-    k: &K,
-    reading: Reading,
-    form: &Symmetric<K::Value>,
-    from: &[K::Value],
-    to: &mut [K::Value],
-    one: &mut [K::Value],
-    two: &mut [K::Value],
-) -> Result<(), Fault> {
-    let d = Dimension::Space;
-    join_term(k, d, reading, (X, X, form.xx), from, to, one, two)?;
-    join_mixed(k, d, reading, (X, Y, form.xy), from, to, one, two)?;
-    join_mixed(k, d, reading, (X, Z, form.xz), from, to, one, two)?;
-    join_term(k, d, reading, (Y, Y, form.yy), from, to, one, two)?;
-    join_mixed(k, d, reading, (Y, Z, form.yz), from, to, one, two)?;
-    join_term(k, d, reading, (Z, Z, form.zz), from, to, one, two)
-}
-
-fn join_plane<K: Kind>(
-    k: &K,
-    reading: Reading,
-    form: &Symmetric<K::Value>,
-    from: &[K::Value],
-    to: &mut [K::Value],
-    one: &mut [K::Value],
-    two: &mut [K::Value],
-) -> Result<(), Fault> {
-    let d = Dimension::Plane;
-    join_term(k, d, reading, (X, X, form.xx), from, to, one, two)?;
-    join_mixed(k, d, reading, (X, Y, form.xy), from, to, one, two)?;
-    join_term(k, d, reading, (Y, Y, form.yy), from, to, one, two)
-}
-
-// A quadratic form of derivatives, or of coordinates, on the table `from`, into `to`: its terms by rows of the upper
-// triangle, each formed and added before the next.
-pub(crate) fn quadratic<K: Kind>(
-    k: &K,
-    dimension: Dimension,
-    reading: Reading,
-    form: &Symmetric<K::Value>,
-    from: &[K::Value],
-    to: &mut [K::Value],
-    one: &mut [K::Value],
-    two: &mut [K::Value],
-) -> Result<(), Fault> {
-    clear(k, dimension.size(), to);
-    match dimension {
-        Dimension::Plane => join_plane(k, reading, form, from, to, one, two),
-        Dimension::Space => join_space(k, reading, form, from, to, one, two),
-    }
+    Ok(())
 }

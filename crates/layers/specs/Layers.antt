@@ -1,9 +1,9 @@
--- What a layer itself is asked, and what it hands on from its parts.
-use Rattle.std.specs.Prelude.{ℕ, not, None, Ok, Err, Option, Result, ◌==◌, nat_le}
+-- What a layer itself is asked, and the dimension of its parts.
+use Rattle.std.specs.Prelude.{◌≡◌, ℕ, not, Some, None, Option, ◌==◌, nat_le}
 use Rattle.kinds.specs.declared.fault.Fault.{Fault}
 use Rattle.kinds.specs.declared.fault.Question.{Question}
 use Rattle.kinds.specs.declared.fault.Question.TheVariants.{Dimension, Agreement, Order, Lift, Modulus, Denominator, Memory, Tables, Terms, Monomial, Degree, Range, Divisor, Form}
-use Rattle.kinds.specs.Faults.{deepened}
+use Rattle.monomials.specs.declared.dimension.Dimension.{Dimension as Ambient}
 use Rattle.operators.specs.Piles.{no_if}
 
 -- a remainder layer over parts of these dimensions, a base of this lift and a rest of this order
@@ -23,7 +23,6 @@ remainder_unfit b r l o Range = None
 remainder_unfit b r l o Divisor = None
 remainder_unfit b r l o Form = None
 
--- the answer of a part, its fault one layer deeper
-abbrev pub from_below : {T : Type 0} → Result T Fault → Result T Fault
-from_below (Ok v) = Ok v
-from_below (Err e) = Err (deepened e)
+-- the dimension of both parts
+abbrev pub OfParts : Option Ambient → Option Ambient → Ambient → Type 0
+OfParts base rest d = (base ≡ Some d) × (rest ≡ Some d)

@@ -1,17 +1,19 @@
-ghost use Rattle.std.specs.Prelude.{◌≡◌, ◌≤◌, min, length};
+ghost use Rattle.std.specs.Prelude.{◌≡◌, min, not, length, Some};
+ghost use Rattle.monomials.specs.Dimensions.{size_of, dimension_of};
 ghost use Rattle.tables.specs.Outcomes.{Told};
-ghost use Rattle.operators.specs.Piles.{or_else, deeper, layer_need};
-ghost use Rattle.operators.specs.Rooms.{tables_of};
-ghost use Rattle.layers.specs.Layers.{remainder_unfit, from_below};
+ghost use Rattle.tables.specs.Steps.{Past};
+ghost use Rattle.operators.specs.Piles.{or_else, deeper, no_if, layer_need};
+ghost use Rattle.layers.specs.Layers.{remainder_unfit, OfParts};
+ghost use Rattle.operators.specs.Rooms.{Ready, Untouched, roomy};
 
 use kinds::fault::{Fault, Question};
 use kinds::kind::Kind;
 use monomials::dimension::Dimension;
 use operators::operator::{Forward, Solvable};
-use operators::questions::{degree_asked, layer_need, pile_asked, room_asked, settled};
+use operators::questions::{LAYER_TABLES, degree_asked, layer_need, room_asked};
 use operators::shape::{Lifting, Shape};
-use tables::degree::is_zero;
-use tables::steps::{add_into, clear, copy, negate};
+use tables::steps::{clear, copy};
+use tables::tables::Tables;
 
 // The sum of a base that is solved and a rest of higher order that is only applied: what the base's solution leaves
 // over is solved again, until nothing is left.
@@ -20,6 +22,9 @@ pub struct Remainder<B, R> {
     pub base: B,
     pub rest: R,
 }
+
+// A layer keeps so many of its working tables; its parts work in those past them.
+const OWN_TABLES: usize = LAYER_TABLES as usize;
 
 // The layer's own part in a question on the pile.
 fn layer_asked<B: Lifting, R: Shape>(base: &B, rest: &R, question: Question) -> Result<(), Fault>
@@ -37,138 +42,56 @@ fn layer_asked<B: Lifting, R: Shape>(base: &B, rest: &R, question: Question) -> 
     }
 }
 
-// What comes from a part of a layer is one layer deeper.
-fn below<T>(answer: Result<T, Fault>) -> Result<T, Fault>
-    ensures { result ≡ from_below answer }
-{
-    match answer {
-        Ok(v) => Ok(v),
-        Err(e) => Err(e.deeper()),
-    }
-}
+// The tables are slices of their own here too, as `operators::operator` says.
 
-// The base's solution, over the tables past the four that the layer keeps.
-fn solve_below<K: Kind, B: Solvable<K>>(
-    k: &K,
-    dimension: Dimension,
-    base: &B,
-    source: &mut [K::Value],
-    target: &mut [K::Value],
-    work: &mut [K::Value],
-) -> Result<u32, Fault>
-    requires { tables_of dimension 4 ≤ length work.old }
-{
-    let kept = 4 * dimension.size();
-    let end = work.len();
-    below(base.solve(k, source, target, &mut work[kept..end]))
-}
-
-// The action of a part, over the tables past the four that the layer keeps.
-fn apply_below<K: Kind, O: Forward<K>>(
-    k: &K,
-    dimension: Dimension,
-    o: &O,
-    source: &mut [K::Value],
-    target: &mut [K::Value],
-    work: &mut [K::Value],
-) -> Result<(), Fault>
-    requires { tables_of dimension 4 ≤ length work.old }
-{
-    let kept = 4 * dimension.size();
-    let end = work.len();
-    below(o.apply(k, source, target, &mut work[kept..end]))
-}
-
-// One turn: the base is solved for what is left, which the source holds; the solution joins the answer, the second
-// kept table; and what the rest makes of it, negated, is left now.
+// One turn: the base is solved for what is left, which the source holds; the solution joins the answer, and what the rest
+// makes of it, negated, is left now.
 fn turn<K: Kind, B: Solvable<K>, R: Forward<K>>(
-    k: &K,
-    dimension: Dimension,
+    tables: Tables<'_, K>,
     layer: &Remainder<B, R>,
     source: &mut [K::Value],
     target: &mut [K::Value],
-    work: &mut [K::Value],
+    answer: &mut [K::Value],
+    below: &mut [K::Value],
 ) -> Result<u32, Fault>
-    requires { tables_of dimension 4 ≤ length work.old }
+    ensures source { OfParts (dimension_of (B.Shape.given layer.now.base)) (dimension_of (R.Shape.given layer.now.rest)) tables.entry.dimension → Past (size_of tables.entry.dimension) source.old source.new }
+    ensures target { OfParts (dimension_of (B.Shape.given layer.now.base)) (dimension_of (R.Shape.given layer.now.rest)) tables.entry.dimension → Past (size_of tables.entry.dimension) target.old target.new }
 {
-    let size = dimension.size();
-    let passes = solve_below(k, dimension, &layer.base, source, target, work)?;
-    add_into(k, dimension, &mut work[size..2 * size], target)?;
-    apply_below(k, dimension, &layer.rest, target, source, work)?;
-    negate(k, dimension, source);
+    let passes = layer
+        .base
+        .solve(tables.kind, source, target, below)
+        .map_err(Fault::deeper)?;
+    tables.add_into(answer, target)?;
+    layer
+        .rest
+        .apply(tables.kind, target, source, below)
+        .map_err(Fault::deeper)?;
+    tables.negate(source);
     Ok(passes)
 }
 
 // Turns until nothing is left. The rest's order passes the base's lift, so that the degree of what is left falls with
 // each turn, and thirteen are enough.
 fn turns<K: Kind, B: Solvable<K>, R: Forward<K>>(
-    k: &K,
-    dimension: Dimension,
+    tables: Tables<'_, K>,
     layer: &Remainder<B, R>,
     source: &mut [K::Value],
     target: &mut [K::Value],
-    work: &mut [K::Value],
+    answer: &mut [K::Value],
+    below: &mut [K::Value],
 ) -> Result<u32, Fault>
-    requires { tables_of dimension 4 ≤ length work.old }
+    ensures source { OfParts (dimension_of (B.Shape.given layer.now.base)) (dimension_of (R.Shape.given layer.now.rest)) tables.entry.dimension → Past (size_of tables.entry.dimension) source.old source.new }
+    ensures target { OfParts (dimension_of (B.Shape.given layer.now.base)) (dimension_of (R.Shape.given layer.now.rest)) tables.entry.dimension → Past (size_of tables.entry.dimension) target.old target.new }
 {
     let mut passes: u32 = 0;
-    for _j in 0..13usize {
-        if is_zero(k, dimension, source) {
-            return Ok(passes);
+    for _ in 0..13u8 {
+        if tables.is_zero(source) {
+            break;
         }
-        passes = passes.saturating_add(turn(k, dimension, layer, source, target, work)?);
+        let more = turn(tables, layer, source, target, answer, below)?;
+        passes = passes.saturating_add(more);
     }
     Ok(passes)
-}
-
-// The source is kept in the first kept table; the answer, in the second, starts at zero.
-fn begin<K: Kind>(k: &K, dimension: Dimension, source: &[K::Value], work: &mut [K::Value])
-    requires { tables_of dimension 4 ≤ length work.old }
-{
-    let size = dimension.size();
-    copy(size, source, work);
-    clear(k, size, &mut work[size..2 * size]);
-}
-
-// The solution, with its passes; the source is put back.
-fn solution<K: Kind, B: Solvable<K>, R: Forward<K>>(
-    k: &K,
-    dimension: Dimension,
-    layer: &Remainder<B, R>,
-    source: &mut [K::Value],
-    target: &mut [K::Value],
-    work: &mut [K::Value],
-) -> Result<u32, Fault>
-    requires { tables_of dimension 4 ≤ length work.old }
-{
-    degree_asked(k, dimension, layer.base.lift(), source)?;
-    begin(k, dimension, source, work);
-    let answer = turns(k, dimension, layer, source, target, work);
-    let size = dimension.size();
-    copy(size, work, source);
-    let passes = answer?;
-    copy(size, &work[size..2 * size], target);
-    Ok(passes)
-}
-
-// The action of the base and then of the rest, added up in the first kept table.
-fn action<K: Kind, B: Solvable<K>, R: Forward<K>>(
-    k: &K,
-    dimension: Dimension,
-    layer: &Remainder<B, R>,
-    source: &mut [K::Value],
-    target: &mut [K::Value],
-    work: &mut [K::Value],
-) -> Result<(), Fault>
-    requires { tables_of dimension 4 ≤ length work.old }
-{
-    let size = dimension.size();
-    apply_below(k, dimension, &layer.base, source, target, work)?;
-    copy(size, target, work);
-    apply_below(k, dimension, &layer.rest, source, target, work)?;
-    add_into(k, dimension, work, target)?;
-    copy(size, work, target);
-    Ok(())
 }
 
 impl<B: Lifting, R: Shape> Shape for Remainder<B, R> {
@@ -187,15 +110,15 @@ impl<B: Lifting, R: Shape> Shape for Remainder<B, R> {
     }
 
     fn dimension(&self) -> Result<Dimension, Fault> {
-        let dimension = below(self.base.dimension())?;
-        let _rest = below(self.rest.dimension())?;
+        let dimension = self.base.dimension().map_err(Fault::deeper)?;
+        self.rest.dimension().map_err(Fault::deeper)?;
         Ok(dimension)
     }
 
     fn ask(&self, question: Question) -> Result<(), Fault> {
         layer_asked(&self.base, &self.rest, question)?;
-        below(self.base.ask(question))?;
-        below(self.rest.ask(question))
+        self.base.ask(question).map_err(Fault::deeper)?;
+        self.rest.ask(question).map_err(Fault::deeper)
     }
 
     fn order(&self) -> u32 {
@@ -216,33 +139,71 @@ impl<B: Lifting, R: Shape> Lifting for Remainder<B, R> {
 }
 
 impl<K: Kind, B: Solvable<K>, R: Forward<K>> Forward<K> for Remainder<B, R> {
-    fn apply(
+    // The action of the base and then of the rest, added up in the first of the layer's tables.
+    fn act(
         &self,
-        k: &K,
+        tables: Tables<'_, K>,
         source: &mut [K::Value],
         target: &mut [K::Value],
         work: &mut [K::Value],
-    ) -> Result<(), Fault> {
-        let dimension = pile_asked(self)?;
+    ) -> Result<(), Fault>
+        ensures room { Untouched (no_if (not (roomy tables.entry.dimension (⟦<Remainder<B, R> as Shape>⟧.tables self.now) (length source.old) (length target.old) (length work.old))) Question.Tables) result source.old source.new target.old target.new work.old work.new }
+        ensures source { source.new ≡ source.old }
+        ensures past { Ready (⟦<Remainder<B, R> as Shape>⟧.outside self.now) (⟦<Remainder<B, R> as Shape>⟧.unfit self.now) (⟦<Remainder<B, R> as Shape>⟧.given self.now) tables.entry.dimension → Past (size_of tables.entry.dimension) target.old target.new }
+    {
         let need = layer_need(self.base.need(), self.rest.need());
-        room_asked(dimension, need, source.len(), target.len(), work.len())?;
-        let answer = action(k, dimension, self, source, target, work);
-        settled(k, dimension, need, target, work, answer)
+        room_asked(
+            tables.dimension,
+            need,
+            source.len(),
+            target.len(),
+            work.len(),
+        )?;
+        let size = tables.size();
+        let (sum, below) = work.split_at_mut(OWN_TABLES * size);
+        self.base
+            .apply(tables.kind, source, target, below)
+            .map_err(Fault::deeper)?;
+        copy(size, target, sum);
+        self.rest
+            .apply(tables.kind, source, target, below)
+            .map_err(Fault::deeper)?;
+        tables.add_into(sum, target)?;
+        copy(size, sum, target);
+        Ok(())
     }
 }
 
 impl<K: Kind, B: Solvable<K>, R: Forward<K>> Solvable<K> for Remainder<B, R> {
-    fn solve(
+    // The source is kept in the first of the layer's tables and put back; the answer, from the second on, starts at zero.
+    fn find(
         &self,
-        k: &K,
+        tables: Tables<'_, K>,
         source: &mut [K::Value],
         target: &mut [K::Value],
         work: &mut [K::Value],
-    ) -> Result<u32, Fault> {
-        let dimension = pile_asked(self)?;
+    ) -> Result<u32, Fault>
+        ensures room { Untouched (no_if (not (roomy tables.entry.dimension (⟦<Remainder<B, R> as Shape>⟧.tables self.now) (length source.old) (length target.old) (length work.old))) Question.Tables) result source.old source.new target.old target.new work.old work.new }
+        ensures source { Ready (⟦<Remainder<B, R> as Shape>⟧.outside self.now) (⟦<Remainder<B, R> as Shape>⟧.unfit self.now) (⟦<Remainder<B, R> as Shape>⟧.given self.now) tables.entry.dimension → source.new ≡ source.old }
+        ensures past { Ready (⟦<Remainder<B, R> as Shape>⟧.outside self.now) (⟦<Remainder<B, R> as Shape>⟧.unfit self.now) (⟦<Remainder<B, R> as Shape>⟧.given self.now) tables.entry.dimension → Past (size_of tables.entry.dimension) target.old target.new }
+    {
         let need = layer_need(self.base.need(), self.rest.need());
-        room_asked(dimension, need, source.len(), target.len(), work.len())?;
-        let answer = solution(k, dimension, self, source, target, work);
-        settled(k, dimension, need, target, work, answer)
+        room_asked(
+            tables.dimension,
+            need,
+            source.len(),
+            target.len(),
+            work.len(),
+        )?;
+        degree_asked(tables, self.base.lift(), source)?;
+        let size = tables.size();
+        let (own, below) = work.split_at_mut(OWN_TABLES * size);
+        let (kept, answer) = own.split_at_mut(size);
+        copy(size, source, kept);
+        clear(tables.kind, size, answer);
+        let found = turns(tables, self, source, target, answer, below);
+        copy(size, kept, source);
+        copy(size, answer, target);
+        found
     }
 }

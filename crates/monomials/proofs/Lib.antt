@@ -1,3 +1,4 @@
+pub mod Listed
 pub mod Numbers
 pub mod Placing
 pub mod Walks

@@ -1,5 +1,5 @@
 -- Places lie in their tables, and two monomials never share one.
-use Rattle.std.proofs.Common.{◌≡◌, ℕ, suc, ◌+◌, ◌-◌, ◌*◌, ◌/◌, ◌<◌, ◌≤◌, Bool, true, false, eqb, leb, Some, None, sym, refl, ap, ◌∙◌, subst, arith}
+use Rattle.std.proofs.Common.{◌≡◌, ℕ, suc, ◌+◌, ◌-◌, ◌*◌, ◌/◌, ◌<◌, ◌≤◌, Bool, true, false, eqb, leb, Some, None, Option, IfSome, sym, refl, ap, ◌∙◌, subst, arith}
 use Rattle.std.proofs.lemmas.Bool.{leb-true, eqb-true, and_parts, cond-true, cond-false}
 use Rattle.monomials.specs.declared.dimension.Dimension.{Dimension}
 use Rattle.monomials.specs.Dimensions.{size_of}
@@ -7,12 +7,6 @@ use Rattle.monomials.specs.declared.dimension.Dimension.TheVariants.{Plane, Spac
 use Rattle.monomials.specs.declared.monomial.Monomial.{Monomial}
 use Rattle.monomials.specs.Places.{monomial, exponents, fits, place_of, placed, Alone, Rising}
 use Rattle.monomials.proofs.Numbers.{tri, tet, tri_gap, tet_gap, tri_is, tet_is, tri_13, tet_13, tri_apart, tet_apart}
-
-some_same : (m n : ℕ) → Some m ≡ Some n → m ≡ n
-some_same m n e = cc
-
-none_some : (n : ℕ) → ¬ (None ≡ Some n)
-none_some n e = let z : ◌≡◌ {A = ℕ} 0 1 = cc in omega arith
 
 same : {a b c x y z : ℕ} → a ≡ x → b ≡ y → c ≡ z → monomial a b c ≡ monomial x y z
 same p q r = rw (p, q, r)
@@ -77,12 +71,17 @@ pub placed_fits : (d : Dimension) (n : Monomial) (p : ℕ) → placed d n ≡ So
 placed_fits d n p e = go (fits d n) refl
   where
     go : (t : Bool) → fits d n ≡ t → (fits d n ≡ true) × (place_of d n ≡ p)
-    go true f = (f, some_same (place_of d n) p (sym (cond-true _ _ _ f) ∙ e))
-    go false f = absurd (none_some p (sym (cond-false (fits d n) (Some (place_of d n)) None f) ∙ e))
+    go true f = (f, let h : Some (place_of d n) ≡ Some p = sym (cond-true _ _ _ f) ∙ e in cc)
+    go false f = let h : None ≡ Some p = sym (cond-false (fits d n) (Some (place_of d n)) None f) ∙ e in cc
 
 pub alone : (d : Dimension) (m : Monomial) (p : ℕ) → fits d m ≡ true → p ≡ place_of d m → Alone d m p
 alone d m p f e n q = let h = placed_fits d n p q in apart d n m h.0 f (h.1 ∙ e)
 
--- a number that is the place of a monomial which fits
-pub placing : (d : Dimension) (m : Monomial) (p : ℕ) → fits d m ≡ true → p ≡ place_of d m → (Some p ≡ placed d m) × (p < size_of d) × Alone d m p
-placing d m p f e = (ap Some e ∙ sym (cond-true _ _ _ f), subst (λ q. q < size_of d) (sym e) (below d m f), alone d m p f e)
+-- the same of an answer: where it tells a place, that lies in the table, and no other monomial has it
+pub placed_below : (d : Dimension) (m : Monomial) (r : Option ℕ) → r ≡ placed d m → IfSome r (λ p. p < size_of d)
+placed_below d m None e = tt
+placed_below d m (Some p) e = let h = placed_fits d m p (sym e) in subst (λ q. q < size_of d) h.1 (below d m h.0)
+
+pub placed_alone : (d : Dimension) (m : Monomial) (r : Option ℕ) → r ≡ placed d m → IfSome r (λ p. Alone d m p)
+placed_alone d m None e = tt
+placed_alone d m (Some p) e = let h = placed_fits d m p (sym e) in alone d m p h.0 (sym h.1)

@@ -116,6 +116,3 @@ at_next d p m n e h s = s (rw e (at_fits d p h)) ∙ ap (next_of d) e ∙ ap (mo
 pub at_start : (d : Dimension) → monomial 0 0 0 ≡ monomial_at d 0
 unfolding monomial_at
 at_start d = refl
-
-pub walk_on : (d : Dimension) (p : ℕ) (m n : Monomial) → Walk d p m → p < size_of d → (fits d m ≡ true → n ≡ next_of d m) → Walk d (p + 1) n
-walk_on d p m n w h e = subst (Walk d (p + 1)) (sym (e (walk_fits d p m w h))) (next_walk d p m w)

@@ -1,5 +1,6 @@
 -- The place of a monomial x^a y^b z^c in a table: by rising degree, then by falling exponent of x, then of y.
-use Rattle.std.specs.Prelude.{◌≡◌, ℕ, zero, suc, ◌+◌, ◌-◌, ◌*◌, ◌/◌, ◌<◌, min, Bool, true, cond, ◌&&◌, Some, None, Option, ◌==◌, nat_le, nat_lt}
+use Rattle.std.specs.Prelude.{◌≡◌, ℕ, zero, suc, ◌+◌, ◌-◌, ◌*◌, ◌/◌, ◌<◌, min, Bool, true, cond, ◌&&◌, List, map, Some, None, Option, ◌==◌, nat_le, nat_lt}
+use Rattle.std.specs.List.{range_with_len}
 use Rattle.monomials.specs.declared.dimension.Dimension.{Dimension}
 use Rattle.monomials.specs.declared.dimension.Dimension.TheVariants.{Plane, Space}
 use Rattle.monomials.specs.Dimensions.{size_of}
@@ -55,6 +56,10 @@ monomial_at d (suc p) = next_of d (monomial_at d p)
 abbrev pub found_at : Dimension → ℕ → Option Monomial
 found_at d p = cond (nat_lt p (size_of d)) (Some (monomial_at d p)) None
 
+-- the monomials at the places of a table from p on
+unfoldable pub monomials_from : Dimension → ℕ → List Monomial
+monomials_from d p = map (monomial_at d) (range_with_len p (size_of d - p))
+
 -- places rise with the degree
 abbrev pub Rising : Dimension → Type 0
 Rising d = (m n : Monomial) → fits d m ≡ true → fits d n ≡ true → exponents m < exponents n → place_of d m < place_of d n
@@ -62,6 +67,12 @@ Rising d = (m n : Monomial) → fits d m ≡ true → fits d n ≡ true → expo
 -- each place of a table has its monomial, and each monomial of a table its place
 abbrev pub Inverse : Dimension → Type 0
 Inverse d = ((p : ℕ) → p < size_of d → placed d (monomial_at d p) ≡ Some p) × ((m : Monomial) (p : ℕ) → placed d m ≡ Some p → (p < size_of d) × (monomial_at d p ≡ m))
+
+-- the same with another exponent of one coordinate
+abbrev pub with_exponent : Axis → ℕ → Monomial → Monomial
+with_exponent X n m = monomial n m.b m.c
+with_exponent Y n m = monomial m.a n m.c
+with_exponent Z n m = monomial m.a m.b n
 
 -- times a coordinate, with exponents up to 255
 abbrev pub raised_of : Axis → Monomial → Monomial

@@ -1,33 +1,42 @@
 ghost use Rattle.std.specs.Prelude.{◌≡◌};
-ghost use Rattle.monomials.specs.Dimensions.{dimension_of, size_of, number_of};
+ghost use Rattle.monomials.specs.Dimensions.{Named, size_of, number_of};
+
+use crate::monomials::Monomials;
 
 // The plane, with the coordinates x and y, or space, with x, y and z.
-#[derive(Clone, Copy, PartialEq, Eq)]
+#[derive(Clone, Copy, Debug, PartialEq, Eq)]
 pub enum Dimension {
-    Plane,
-    Space,
+    Plane = 2,
+    Space = 3,
+}
+
+// A number of coordinates that is neither the plane's nor space's.
+#[derive(Clone, Copy, Debug, PartialEq, Eq)]
+pub struct UnknownDimension(pub u64);
+
+impl TryFrom<u64> for Dimension {
+    type Error = UnknownDimension;
+
+    ghost try_from_gives = { Named };
+
+    fn try_from(d: u64) -> Result<Self, UnknownDimension> {
+        match d {
+            2 => Ok(Dimension::Plane),
+            3 => Ok(Dimension::Space),
+            _ => Err(UnknownDimension(d)),
+        }
+    }
+}
+
+impl From<Dimension> for u8 {
+    ghost from_gives = { λ d n. n ≡ number_of d };
+
+    fn from(dimension: Dimension) -> u8 {
+        dimension as u8
+    }
 }
 
 impl Dimension {
-    pub fn of(d: u64) -> Option<Dimension>
-        ensures { result ≡ dimension_of d }
-    {
-        match d {
-            2 => Some(Dimension::Plane),
-            3 => Some(Dimension::Space),
-            _ => None,
-        }
-    }
-
-    pub fn number(self) -> u8
-        ensures { result ≡ number_of self }
-    {
-        match self {
-            Dimension::Plane => 2,
-            Dimension::Space => 3,
-        }
-    }
-
     // How many coefficients a table has.
     pub fn size(self) -> usize
         ensures { result ≡ size_of self }

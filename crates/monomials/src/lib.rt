@@ -2,4 +2,5 @@
 
 pub mod dimension;
 pub mod monomial;
+pub mod monomials;
 pub mod places;

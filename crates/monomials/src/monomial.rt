@@ -1,11 +1,11 @@
 ghost use Rattle.std.specs.Prelude.{◌≡◌, ◌<◌, true, IfSome};
 ghost use Rattle.monomials.specs.declared.dimension.Dimension.TheVariants.{Plane, Space};
 ghost use Rattle.monomials.specs.Dimensions.{size_of};
-ghost use Rattle.monomials.specs.Places.{monomial, exponents, exponent_of, fits, placed, found_at, next_of, raised_of, lowered_of, Alone};
+ghost use Rattle.monomials.specs.Places.{monomial, exponents, exponent_of, fits, place_of, placed, found_at, next_of, with_exponent, raised_of, lowered_of, Alone};
 
 use crate::dimension::Dimension;
 
-#[derive(Clone, Copy)]
+#[derive(Clone, Copy, Debug, PartialEq, Eq)]
 pub enum Axis {
     X,
     Y,
@@ -13,7 +13,7 @@ pub enum Axis {
 }
 
 // x^a y^b z^c
-#[derive(Clone, Copy)]
+#[derive(Clone, Copy, Debug, PartialEq, Eq)]
 pub struct Monomial {
     pub a: u8,
     pub b: u8,
@@ -30,7 +30,7 @@ impl Monomial {
     pub fn degree(self) -> usize
         ensures { result ≡ exponents self }
     {
-        self.a as usize + self.b as usize + self.c as usize
+        usize::from(self.a) + usize::from(self.b) + usize::from(self.c)
     }
 
     pub fn exponent(self, axis: Axis) -> u8
@@ -59,17 +59,20 @@ impl Monomial {
         ensures below { IfSome result (λ p. p < size_of dimension) }
         ensures own { IfSome result (λ p. Alone dimension self p) }
     {
-        if !self.fits(dimension) {
-            return None;
-        }
+        self.fits(dimension).then(|| self.formula(dimension))
+    }
+
+    // The place, by its formula.
+    fn formula(self, dimension: Dimension) -> usize
+        ensures { result ≡ place_of dimension self }
+    {
         let n = self.degree();
-        let a = self.a as usize;
-        let b = self.b as usize;
+        let a = usize::from(self.a);
         match dimension {
-            Dimension::Plane => Some(n * (n + 1) / 2 + b),
-            Dimension::Space => Some(
-                n * (n + 1) * (n + 2) / 6 + (n - a) * (n - a + 1) / 2 + (n - a - b),
-            ),
+            Dimension::Plane => n * (n + 1) / 2 + usize::from(self.b),
+            Dimension::Space => {
+                n * (n + 1) * (n + 2) / 6 + (n - a) * (n - a + 1) / 2 + usize::from(self.c)
+            }
         }
     }
 
@@ -77,14 +80,7 @@ impl Monomial {
     pub fn at(dimension: Dimension, place: usize) -> Option<Monomial>
         ensures { result ≡ found_at dimension place }
     {
-        if place >= dimension.size() {
-            return None;
-        }
-        let mut m = Monomial::one();
-        for p in 0..place {
-            m = m.next(dimension);
-        }
-        Some(m)
+        dimension.monomials().nth(place)
     }
 
     // The monomial at the next place.
@@ -97,21 +93,23 @@ impl Monomial {
         }
     }
 
+    // In the plane and in space other exponents fall, so the two steps have no common form.
     fn next_of_plane(self) -> Monomial
         ensures { fits Plane self ≡ true → result ≡ next_of Plane self }
     {
         let after = self.b.saturating_add(1);
         if self.a > 0 {
-            return Monomial {
+            Monomial {
                 a: self.a - 1,
                 b: after,
                 c: 0,
-            };
-        }
-        Monomial {
-            a: after,
-            b: 0,
-            c: 0,
+            }
+        } else {
+            Monomial {
+                a: after,
+                b: 0,
+                c: 0,
+            }
         }
     }
 
@@ -120,23 +118,34 @@ impl Monomial {
     {
         let after = self.c.saturating_add(1);
         if self.b > 0 {
-            return Monomial {
+            Monomial {
                 a: self.a,
                 b: self.b - 1,
                 c: after,
-            };
-        }
-        if self.a > 0 {
-            return Monomial {
+            }
+        } else if self.a > 0 {
+            Monomial {
                 a: self.a - 1,
                 b: after,
                 c: 0,
-            };
+            }
+        } else {
+            Monomial {
+                a: after,
+                b: 0,
+                c: 0,
+            }
         }
-        Monomial {
-            a: after,
-            b: 0,
-            c: 0,
+    }
+
+    // The same with another exponent of one coordinate.
+    fn with(self, axis: Axis, n: u8) -> Monomial
+        ensures { result ≡ with_exponent axis n self }
+    {
+        match axis {
+            Axis::X => Monomial { a: n, ..self },
+            Axis::Y => Monomial { b: n, ..self },
+            Axis::Z => Monomial { c: n, ..self },
         }
     }
 
@@ -144,38 +153,15 @@ impl Monomial {
     pub fn raised(self, axis: Axis) -> Monomial
         ensures { result ≡ raised_of axis self }
     {
-        let Monomial { a, b, c } = self;
-        match axis {
-            Axis::X => Monomial {
-                a: a.saturating_add(1),
-                b,
-                c,
-            },
-            Axis::Y => Monomial {
-                a,
-                b: b.saturating_add(1),
-                c,
-            },
-            Axis::Z => Monomial {
-                a,
-                b,
-                c: c.saturating_add(1),
-            },
-        }
+        self.with(axis, self.exponent(axis).saturating_add(1))
     }
 
     // Divided by a coordinate, where it has it.
     pub fn lowered(self, axis: Axis) -> Option<Monomial>
         ensures { result ≡ lowered_of axis self }
     {
-        if self.exponent(axis) == 0 {
-            return None;
-        }
-        let Monomial { a, b, c } = self;
-        match axis {
-            Axis::X => Some(Monomial { a: a - 1, b, c }),
-            Axis::Y => Some(Monomial { a, b: b - 1, c }),
-            Axis::Z => Some(Monomial { a, b, c: c - 1 }),
-        }
+        self.exponent(axis)
+            .checked_sub(1)
+            .map(|n| self.with(axis, n))
     }
 }

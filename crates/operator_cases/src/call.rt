@@ -1,6 +1,5 @@
 use crate::raw::Raw;
 use kinds::fault::Fault;
-use operators::operator::{Forward, Solvable};
 use std::alloc::{AllocError, Global};
 
 // What a lent slice holds before a call: a value at each place that no call forms there.
@@ -13,29 +12,27 @@ pub(crate) fn filled<K: Raw>(
     k: &K,
     count: usize,
 ) -> Result<Vec<K::Value>, AllocError> {
-    let mut all = Vec::new(heap);
-    for place in 0..count {
-        all.push(filler(k, place))?;
-    }
-    Ok(all)
+    (0..count).map(|place| filler(k, place)).collect(heap)
+}
+
+// Whether the values from a place on are as they were filled.
+fn untouched<K: Raw>(k: &K, from: usize, slice: &[K::Value]) -> bool {
+    slice
+        .iter()
+        .enumerate()
+        .skip(from)
+        .all(|(place, v)| *v == filler(k, place))
 }
 
 // How many values at the front of a slice are zeros, where all others are as they were filled.
 fn zeroed<K: Raw>(heap: Global, k: &K, slice: &[K::Value]) -> Result<String, AllocError> {
     let zero = k.whole(0);
-    let mut front = 0usize;
-    let mut past = false;
-    for place in 0..slice.len() {
-        if !past && k.same(slice[place], zero) {
-            front = place.saturating_add(1);
-        } else {
-            past = true;
-            if !k.same(slice[place], filler(k, place)) {
-                return String::from_str(heap, "bad");
-            }
-        }
+    let front = slice.iter().position(|v| *v != zero).unwrap_or(slice.len());
+    if untouched(k, front, slice) {
+        front.to_string(heap)
+    } else {
+        String::from_str(heap, "bad")
     }
-    format!(in heap; "{front}")
 }
 
 // The values of an accepted call's target that are not zero, by place.
@@ -47,12 +44,11 @@ fn answers<K: Raw>(
 ) -> Result<String, AllocError> {
     let zero = k.whole(0);
     let mut all = String::new(heap);
-    for place in 0..target.len() {
-        if place < size && !k.same(target[place], zero) {
-            let value = k.shown(heap, target[place])?;
-            all.push_str(format!(in heap; ", {place} {value}")?.as_str())?;
+    for (place, v) in target.iter().enumerate() {
+        if place < size && *v != zero {
+            write!(all, ", {place} {v}")?;
         }
-        if place >= size && !k.same(target[place], filler(k, place)) {
+        if place >= size && *v != filler(k, place) {
             all.push_str(" bad")?;
         }
     }
@@ -66,34 +62,20 @@ fn refused<K: Raw>(
     target: &[K::Value],
     work: &[K::Value],
 ) -> Result<String, AllocError> {
-    let r = fault.refusal();
-    let number = r.number;
-    let depth = r.depth;
-    let place = r.place;
     let left = zeroed(heap, k, work)?;
     let cleared = zeroed(heap, k, target)?;
-    format!(in heap; "refused {number} {depth} {place} work {left} target {cleared}")
+    format!(in heap; "refused {fault} work {left} target {cleared}")
 }
 
-// Solves or applies, and tells the outcome and what the call left in its memory.
-pub(crate) fn told<K: Raw, O: Solvable<K>>(
+// The outcome of a call, and what it left in the target and the working tables, which are slices as in the call.
+pub(crate) fn told<K: Raw>(
     heap: Global,
     k: &K,
-    o: &O,
-    solve: bool,
     size: usize,
-    source: &mut [K::Value],
-    target: &mut [K::Value],
-    work: &mut [K::Value],
+    answer: Result<u32, Fault>,
+    target: &[K::Value],
+    work: &[K::Value],
 ) -> Result<String, AllocError> {
-    let answer = if solve {
-        o.solve(k, source, target, work)
-    } else {
-        match o.apply(k, source, target, work) {
-            Ok(()) => Ok(0),
-            Err(e) => Err(e),
-        }
-    };
     match answer {
         Ok(passes) => {
             let left = zeroed(heap, k, work)?;

@@ -13,26 +13,21 @@ use std::io::{BufRead, BufReader};
 
 // The numbers of one line.
 fn numbers(heap: Global, line: &str) -> anyhow::Result<Vec<i64>> {
-    let mut all = Vec::new(heap);
-    for word in line.split(' ') {
-        all.push(word.parse::<i64>()?)?;
-    }
-    Ok(all)
+    line.split(' ')
+        .map(|word| -> anyhow::Result<i64> { Ok(word.parse()?) })
+        .try_collect(heap)
 }
 
 // The outcome of the call on one line; its first number is the modulus, or 0 for fractions.
 fn outcome(heap: Global, line: &[i64]) -> anyhow::Result<String> {
-    let modulus = line.first().copied().unwrap_or(0);
+    let mut words = line.iter();
+    let modulus = words.next().copied().unwrap_or(0);
     if modulus == 0 {
-        return Ok(run(heap, &Fractions, line)?);
+        return Ok(run(heap, &Fractions, &mut words)?);
     }
-    match u32::try_from(modulus) {
-        Ok(m) => match Residues::new(m) {
-            Ok(k) => Ok(run(heap, &k, line)?),
-            Err(_) => Err(anyhow!("a modulus out of range")),
-        },
-        Err(_) => Err(anyhow!("a modulus out of range")),
-    }
+    let m = u32::try_from(modulus).map_err(|_| anyhow!("a modulus out of range"))?;
+    let k = Residues::new(m).map_err(|_| anyhow!("a modulus out of range"))?;
+    Ok(run(heap, &k, &mut words)?)
 }
 
 // Standard input has a call on each line, in numbers (src/piles.rt has their order); each outcome is printed on a line.

@@ -3,84 +3,135 @@ use crate::raw::Raw;
 use laplace::laplacian::Laplacian;
 use laplace::matrix::Symmetric;
 use layers::remainder::Remainder;
+use monomials::dimension::Dimension;
 use operators::constant::Constant;
 use operators::operator::Solvable;
 use std::alloc::{AllocError, Global};
+use std::slice::Iter;
 
 // A line has, in numbers: the modulus; the pile's form; 1 to solve and 0 to apply; the lengths of source, target and working slice;
 // the operators of the pile, each with its dimension and six values; and then the entries of the source, each with its place and
 // value. A value has two numbers. The forms are 1, a constant; 2, a Laplacian; 3, a remainder layer of the two; 4, a layer over a
-// layer, all Laplacians; 5, the same over a constant.
-fn at(line: &[i64], i: usize) -> i64 {
-    line.get(i).copied().unwrap_or(0)
+// layer, all Laplacians; 5, the same over a constant. What a line is too short for is zero.
+type Numbers<'a> = Iter<'a, i64>;
+
+fn number(numbers: &mut Numbers<'_>) -> i64 {
+    numbers.next().copied().unwrap_or(0)
 }
 
 // A length that is small enough to lend.
-fn length(line: &[i64], i: usize) -> usize {
-    match usize::try_from(at(line, i)) {
-        Ok(n) => n.min(100000),
-        Err(_) => 0,
-    }
+fn length(numbers: &mut Numbers<'_>) -> usize {
+    usize::try_from(number(numbers)).unwrap_or(0).min(100000)
 }
 
-// Where the operators stand, of 13 numbers each, and where the entries begin after three of them.
-const FIRST: usize = 6;
-
-const SECOND: usize = 19;
-
-const THIRD: usize = 32;
-
-const ENTRIES: usize = 45;
-
-fn value<K: Raw>(k: &K, line: &[i64], i: usize) -> K::Value {
-    k.made(at(line, i), at(line, i.saturating_add(1)))
+fn value<K: Raw>(k: &K, numbers: &mut Numbers<'_>) -> K::Value {
+    let a = number(numbers);
+    k.made(a, number(numbers))
 }
 
-fn constant<K: Raw>(k: &K, line: &[i64], from: usize) -> Constant<K::Value> {
+// A constant has the first of an operator's six values.
+fn constant<K: Raw>(k: &K, numbers: &mut Numbers<'_>) -> Constant<K::Value> {
+    let Laplacian { dimension, matrix } = laplacian(k, numbers);
     Constant {
-        dimension: length(line, from) as u64,
-        value: value(k, line, from.saturating_add(1)),
+        dimension,
+        value: matrix.xx,
     }
 }
 
-fn laplacian<K: Raw>(k: &K, line: &[i64], from: usize) -> Laplacian<K::Value> {
-    let xx = value(k, line, from.saturating_add(1));
-    let xy = value(k, line, from.saturating_add(3));
-    let xz = value(k, line, from.saturating_add(5));
-    let yy = value(k, line, from.saturating_add(7));
-    let yz = value(k, line, from.saturating_add(9));
-    let zz = value(k, line, from.saturating_add(11));
+fn laplacian<K: Raw>(k: &K, numbers: &mut Numbers<'_>) -> Laplacian<K::Value> {
     Laplacian {
-        dimension: length(line, from) as u64,
+        dimension: length(numbers) as u64,
         matrix: Symmetric {
-            xx,
-            xy,
-            xz,
-            yy,
-            yz,
-            zz,
+            xx: value(k, numbers),
+            xy: value(k, numbers),
+            xz: value(k, numbers),
+            yy: value(k, numbers),
+            yz: value(k, numbers),
+            zz: value(k, numbers),
         },
     }
 }
 
-// The source: zeros but for its entries.
+// A layer over a base, with a Laplacian for its rest.
+fn over<K: Raw, B>(k: &K, base: B, numbers: &mut Numbers<'_>) -> Remainder<B, Laplacian<K::Value>> {
+    let rest = laplacian(k, numbers);
+    Remainder { base, rest }
+}
+
+#[derive(Clone, Copy)]
+enum Form {
+    Constant,
+    Laplacian,
+    Layer,
+    LaplacianLayers,
+    ConstantLayers,
+}
+
+impl From<i64> for Form {
+    fn from(number: i64) -> Form {
+        match number {
+            1 => Form::Constant,
+            2 => Form::Laplacian,
+            3 => Form::Layer,
+            4 => Form::LaplacianLayers,
+            _ => Form::ConstantLayers,
+        }
+    }
+}
+
+// What the line asks for; a closure could be made only once the operator is known, and the choice stands there too.
+#[derive(Clone, Copy)]
+enum Step {
+    Solve,
+    Apply,
+}
+
+// What stands before the operators; the modulus is read already.
+#[derive(Clone, Copy)]
+struct Request {
+    form: Form,
+    step: Step,
+    source: usize,
+    target: usize,
+    work: usize,
+    // that of the first operator
+    dimension: Dimension,
+}
+
+fn requested(numbers: &mut Numbers<'_>) -> Request {
+    Request {
+        form: number(numbers).into(),
+        step: if number(numbers) == 1 {
+            Step::Solve
+        } else {
+            Step::Apply
+        },
+        source: length(numbers),
+        target: length(numbers),
+        work: length(numbers),
+        dimension: if numbers.as_slice().first() == Some(&2) {
+            Dimension::Plane
+        } else {
+            Dimension::Space
+        },
+    }
+}
+
+// The source: zeros but for its entries, up to the first that has no place there.
 fn source<K: Raw>(
     heap: Global,
     k: &K,
-    line: &[i64],
-    entries: usize,
+    count: usize,
+    entries: &mut Numbers<'_>,
 ) -> Result<Vec<K::Value>, AllocError> {
-    let mut all = Vec::new(heap);
-    for _place in 0..length(line, 3) {
-        all.push(k.whole(0))?;
-    }
-    let mut i = entries;
-    for _entry in 0..line.len() {
-        let place = length(line, i);
-        if i < line.len() && place < all.len() {
-            all[place] = value(k, line, i.saturating_add(1));
-            i = i.saturating_add(3);
-        }
+    let mut all = vec![in heap; k.whole(0); count]?;
+    for entry in entries.as_slice().chunks(3) {
+        let mut numbers = entry.iter();
+        let place = length(&mut numbers);
+        let Some(at) = all.get_mut(place) else {
+            break;
+        };
+        *at = value(k, &mut numbers);
     }
     Ok(all)
 }
@@ -89,51 +140,39 @@ fn worked<K: Raw, O: Solvable<K>>(
     heap: Global,
     k: &K,
     o: &O,
-    line: &[i64],
-    entries: usize,
+    request: Request,
+    entries: &mut Numbers<'_>,
 ) -> Result<String, AllocError> {
-    let mut source = source(heap, k, line, entries)?;
-    let mut target = filled(heap, k, length(line, 4))?;
-    let mut work = filled(heap, k, length(line, 5))?;
-    let size = if at(line, FIRST) == 2 { 91 } else { 455 };
-    told(
-        heap,
-        k,
-        o,
-        at(line, 2) == 1,
-        size,
-        &mut source,
-        &mut target,
-        &mut work,
-    )
+    let mut source = source(heap, k, request.source, entries)?;
+    let mut target = filled(heap, k, request.target)?;
+    let mut work = filled(heap, k, request.work)?;
+    let answer = match request.step {
+        Step::Solve => o.solve(k, &mut source, &mut target, &mut work),
+        Step::Apply => o.apply(k, &mut source, &mut target, &mut work).map(|()| 0),
+    };
+    told(heap, k, request.dimension.size(), answer, &target, &work)
 }
 
-pub(crate) fn run<K: Raw>(heap: Global, k: &K, line: &[i64]) -> Result<String, AllocError> {
-    match at(line, 1) {
-        1 => worked(heap, k, &constant(k, line, FIRST), line, SECOND),
-        2 => worked(heap, k, &laplacian(k, line, FIRST), line, SECOND),
-        3 => {
-            let pile = Remainder {
-                base: constant(k, line, FIRST),
-                rest: laplacian(k, line, SECOND),
-            };
-            worked(heap, k, &pile, line, THIRD)
+pub(crate) fn run<K: Raw>(
+    heap: Global,
+    k: &K,
+    numbers: &mut Numbers<'_>,
+) -> Result<String, AllocError> {
+    let request = requested(numbers);
+    match request.form {
+        Form::Constant => worked(heap, k, &constant(k, numbers), request, numbers),
+        Form::Laplacian => worked(heap, k, &laplacian(k, numbers), request, numbers),
+        Form::Layer => {
+            let pile = over(k, constant(k, numbers), numbers);
+            worked(heap, k, &pile, request, numbers)
         }
-        4 => {
-            let base = Remainder {
-                base: laplacian(k, line, FIRST),
-                rest: laplacian(k, line, SECOND),
-            };
-            let rest = laplacian(k, line, THIRD);
-            worked(heap, k, &Remainder { base, rest }, line, ENTRIES)
+        Form::LaplacianLayers => {
+            let base = over(k, laplacian(k, numbers), numbers);
+            worked(heap, k, &over(k, base, numbers), request, numbers)
         }
-        _ => {
-            let base = Remainder {
-                base: constant(k, line, FIRST),
-                rest: laplacian(k, line, SECOND),
-            };
-            let rest = laplacian(k, line, THIRD);
-            worked(heap, k, &Remainder { base, rest }, line, ENTRIES)
+        Form::ConstantLayers => {
+            let base = over(k, constant(k, numbers), numbers);
+            worked(heap, k, &over(k, base, numbers), request, numbers)
         }
     }
 }

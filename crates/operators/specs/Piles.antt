@@ -2,7 +2,7 @@
 use Rattle.std.specs.Prelude.{ℕ, ◌+◌, min, max, Bool, true, false, Some, None, Option}
 use Rattle.kinds.specs.declared.fault.Fault.{Fault}
 use Rattle.kinds.specs.declared.fault.Question.{Question}
-use Rattle.kinds.specs.declared.fault.Question.TheVariants.{Dimension}
+use Rattle.kinds.specs.declared.fault.Question.TheVariants.{Dimension, Agreement, Order, Lift}
 use Rattle.kinds.specs.Faults.{fault, deepened}
 use Rattle.monomials.specs.declared.dimension.Dimension.{Dimension as Ambient}
 use Rattle.monomials.specs.Dimensions.{dimension_of}
@@ -32,3 +32,7 @@ leaf_outside d = unplaced (dimension_of d)
 -- a layer keeps four tables beyond the larger need of its parts; past the most that a call can have it stays there
 abbrev pub layer_need : ℕ → ℕ → ℕ
 layer_need m n = min (max m n + 4) 4294967296
+
+-- the questions on a pile alone, number by number: that on dimensions, which comes first, and those on its layers
+abbrev pub unpiled : Option Fault → (Question → Option Fault) → Option Fault
+unpiled outside unfit = or_else outside (or_else (unfit Agreement) (or_else (unfit Order) (unfit Lift)))

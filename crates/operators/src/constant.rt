@@ -1,15 +1,17 @@
-ghost use Rattle.std.specs.Prelude.{None};
-ghost use Rattle.operators.specs.Piles.{leaf_outside};
+ghost use Rattle.std.specs.Prelude.{◌≡◌, not, length, None};
+ghost use Rattle.monomials.specs.Dimensions.{size_of};
+ghost use Rattle.tables.specs.Steps.{Past};
+ghost use Rattle.operators.specs.Piles.{leaf_outside, no_if};
+ghost use Rattle.operators.specs.Rooms.{roomy, Untouched};
 
 use crate::operator::{Forward, Solvable};
-use crate::questions::{
-    SIMPLE_NEED, degree_asked, leaf_dimension, pile_asked, room_asked, settled,
-};
+use crate::questions::{SIMPLE_NEED, degree_asked, leaf_dimension, room_asked};
 use crate::shape::{Lifting, Shape};
 use kinds::fault::{Fault, Question};
 use kinds::kind::Kind;
 use monomials::dimension::Dimension;
-use tables::steps::{clear, copy, multiply};
+use tables::steps::{clear, copy};
+use tables::tables::Tables;
 
 // The product with a value.
 #[derive(Clone, Copy)]
@@ -18,34 +20,21 @@ pub struct Constant<V> {
     pub value: V,
 }
 
-// The source times a value, into the target.
+// The source times a value, into the target. Source, target and working tables are slices of their own here too, as
+// `operator.rt` says.
 fn scaled<K: Kind>(
-    k: &K,
-    dimension: Dimension,
+    tables: Tables<'_, K>,
     by: K::Value,
     source: &[K::Value],
     target: &mut [K::Value],
-) -> Result<(), Fault> {
-    copy(dimension.size(), source, target);
-    multiply(k, dimension, target, by)
+) -> Result<(), Fault>
+    ensures { Past (size_of tables.entry.dimension) target.old target.new }
+{
+    copy(tables.size(), source, target);
+    tables.multiply(target, by)
 }
 
-fn quotient<K: Kind>(
-    k: &K,
-    dimension: Dimension,
-    by: K::Value,
-    source: &[K::Value],
-    target: &mut [K::Value],
-) -> Result<u32, Fault> {
-    if degree_asked(k, dimension, 0, source)?.is_none() {
-        clear(k, dimension.size(), target);
-        return Ok(0);
-    }
-    let inverse = k.inverse(by)?;
-    scaled(k, dimension, inverse, source, target)?;
-    Ok(1)
-}
-
+// A Laplacian answers the same but for the order and the lift; laplacian.rt of `laplace` says why the two stay side by side.
 impl<V: Copy> Shape for Constant<V> {
     ghost given = { λ o. o.dimension };
 
@@ -87,43 +76,53 @@ impl<V: Copy> Lifting for Constant<V> {
 }
 
 impl<V: Copy, K: Kind<Value = V>> Forward<K> for Constant<V> {
-    fn apply(
+    fn act(
         &self,
-        k: &K,
+        tables: Tables<'_, K>,
         source: &mut [V],
         target: &mut [V],
         work: &mut [V],
-    ) -> Result<(), Fault> {
-        let dimension = pile_asked(self)?;
+    ) -> Result<(), Fault>
+        ensures room { Untouched (no_if (not (roomy tables.entry.dimension 6 (length source.old) (length target.old) (length work.old))) Question.Tables) result source.old source.new target.old target.new work.old work.new }
+        ensures source { source.new ≡ source.old }
+        ensures past { Past (size_of tables.entry.dimension) target.old target.new }
+    {
         room_asked(
-            dimension,
+            tables.dimension,
             SIMPLE_NEED,
             source.len(),
             target.len(),
             work.len(),
         )?;
-        let answer = scaled(k, dimension, self.value, source, target);
-        settled(k, dimension, SIMPLE_NEED, target, work, answer)
+        scaled(tables, self.value, source, target)
     }
 }
 
 impl<V: Copy, K: Kind<Value = V>> Solvable<K> for Constant<V> {
-    fn solve(
+    fn find(
         &self,
-        k: &K,
+        tables: Tables<'_, K>,
         source: &mut [V],
         target: &mut [V],
         work: &mut [V],
-    ) -> Result<u32, Fault> {
-        let dimension = pile_asked(self)?;
+    ) -> Result<u32, Fault>
+        ensures room { Untouched (no_if (not (roomy tables.entry.dimension 6 (length source.old) (length target.old) (length work.old))) Question.Tables) result source.old source.new target.old target.new work.old work.new }
+        ensures source { source.new ≡ source.old }
+        ensures past { Past (size_of tables.entry.dimension) target.old target.new }
+    {
         room_asked(
-            dimension,
+            tables.dimension,
             SIMPLE_NEED,
             source.len(),
             target.len(),
             work.len(),
         )?;
-        let answer = quotient(k, dimension, self.value, source, target);
-        settled(k, dimension, SIMPLE_NEED, target, work, answer)
+        if degree_asked(tables, 0, source)?.is_none() {
+            clear(tables.kind, tables.size(), target);
+            return Ok(0);
+        }
+        let inverse = tables.kind.inverse(self.value)?;
+        scaled(tables, inverse, source, target)?;
+        Ok(1)
     }
 }

@@ -1,3 +1,3 @@
+pub mod Lasts
 pub mod Misplaced
-pub mod Pasts
 pub mod Zeros

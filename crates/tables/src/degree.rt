@@ -1,36 +1,31 @@
 ghost use Rattle.std.specs.Prelude.{◌≡◌, ◌≤◌, min, length, IfSome};
 ghost use Rattle.monomials.specs.Dimensions.{size_of};
-ghost use Rattle.tables.specs.Degrees.{all_zero};
+ghost use Rattle.tables.specs.Degrees.{all_zero, last_degree};
 
+use crate::tables::Tables;
 use kinds::kind::Kind;
-use monomials::dimension::Dimension;
-use monomials::monomial::Monomial;
 
-// Whether every coefficient is zero; one that the slice is too short for counts as zero.
-pub fn is_zero<K: Kind>(k: &K, dimension: Dimension, table: &[K::Value]) -> bool
-    ensures { result ≡ all_zero (K.Kind.arith k.now) table.now (min (size_of dimension) (length table.now)) }
-{
-    let end = dimension.size().min(table.len());
-    for p in 0..end {
-        if !k.is_zero(table[p]) {
-            return false;
-        }
+impl<K: Kind> Tables<'_, K> {
+    // Whether every coefficient is zero; one that the slice is too short for counts as zero.
+    pub fn is_zero(self, table: &[K::Value]) -> bool
+        ensures { result ≡ all_zero (K.Kind.arith self.entry.kind.now) table.now (min (size_of self.entry.dimension) (length table.now)) }
+    {
+        table
+            .iter()
+            .take(self.size())
+            .all(|v| self.kind.is_zero(*v))
     }
-    true
-}
 
-// The largest degree of a monomial whose coefficient is not zero; a zero table has none.
-pub fn degree<K: Kind>(k: &K, dimension: Dimension, table: &[K::Value]) -> Option<usize>
-    ensures { IfSome result (λ n. n ≤ 12) }
-{
-    let end = dimension.size().min(table.len());
-    let mut top = None;
-    let mut m = Monomial::one();
-    for p in 0..end {
-        if !k.is_zero(table[p]) {
-            top = Some(m.degree());
-        }
-        m = m.next(dimension);
+    // The largest degree of a monomial whose coefficient is not zero; a zero table has none.
+    pub fn degree(self, table: &[K::Value]) -> Option<usize>
+        ensures value { result ≡ last_degree (K.Kind.arith self.entry.kind.now) self.entry.dimension table.now }
+        ensures bound { IfSome result (λ n. n ≤ 12) }
+    {
+        self.dimension
+            .monomials()
+            .zip(table)
+            .filter(|(_, v)| !self.kind.is_zero(**v))
+            .map(|(m, _)| m.degree())
+            .last()
     }
-    top
 }

@@ -1,3 +1,3 @@
 pub mod Lengths
 pub mod Puts
-pub mod Told
+pub mod Terms

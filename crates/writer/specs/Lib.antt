@@ -1,2 +1,4 @@
 pub mod Refusals
 pub mod Writes
+pub mod Steps
+pub mod Terms

@@ -1,94 +1,67 @@
-ghost use Rattle.std.specs.Prelude.{◌≤◌, [], ◌∷◌, ◌++◌, decimal};
-ghost use Rattle.std.specs.Fmt.{signed_decimal};
-ghost use Rattle.files.specs.Form.{line, names};
-ghost use Rattle.writer.specs.Writes.{Wrote};
+ghost use Rattle.std.specs.Prelude.{◌≡◌, ◌≤◌, [], ◌∷◌, ◌++◌, length};
 
 use files::row::Row;
+use itoa::{Buffer, Integer};
 
-// The length of the text that is written to; each function takes a place in it, or its end, and answers the place after what it
-// wrote, or nothing where there is no room.
+// The text of a file, which the caller lends.
 pub type FileText = [u8; 16384];
 
-const ROOM: usize = 16384;
+// A lent text, and the place up to which it is written.
+#[derive(Drop)]
+pub(crate) struct Writer<'a> {
+    text: &'a mut FileText,
+    at: usize,
+    ghost within: { at ≤ length text.now },
+}
 
-fn put_byte(out: &mut FileText, at: usize, b: u8) -> Option<usize>
-    requires { at ≤ 16384 }
-    ensures { Wrote out.old at (b ∷ []) out.new result }
-{
-    if at == ROOM {
-        return None;
+impl<'a> Writer<'a> {
+    ghost use Rattle.files.specs.Form.{line};
+    ghost use Rattle.writer.specs.Steps.{Room, WritesOn};
+
+    pub(crate) fn new(text: &'a mut FileText) -> Writer<'a>
+        ensures lent { result.text.ghost_name ≡ text.entry.ghost_name }
+        ensures start { (result.text.now ≡ text.old) × (result.at ≡ 0) }
+    {
+        Writer { text, at: 0 }
     }
-    out[at] = b;
-    Some(at + 1)
-}
 
-pub(crate) fn put_bytes(out: &mut FileText, at: usize, bytes: &[u8]) -> Option<usize>
-    requires { at ≤ 16384 }
-    ensures { Wrote out.old at bytes.now out.new result }
-{
-    let mut to = at;
-    for b in bytes {
-        to = put_byte(out, to, *b)?;
+    // Up to where the text is written.
+    pub(crate) fn place(&self) -> usize
+        ensures { result ≡ self.now.at }
+    {
+        self.at
     }
-    Some(to)
-}
 
-fn put_natural(out: &mut FileText, at: usize, n: u64) -> Option<usize>
-    requires { at ≤ 16384 }
-    ensures { Wrote out.old at (decimal n) out.new result }
-{
-    if n < 10 {
-        return put_byte(out, at, b'0' + n as u8);
+    pub(crate) fn bytes(&mut self, bytes: &[u8])
+        requires { Room self.old bytes.now }
+        ensures { WritesOn self.old bytes.now self.new }
+    {
+        let from = self.at;
+        let to = from + bytes.len();
+        let text = &mut *self.text;
+        text[from..to].copy_from_slice(bytes);
+        self.at = to;
     }
-    let to = put_natural(out, at, n / 10)?;
-    put_byte(out, to, b'0' + (n % 10) as u8)
-}
 
-fn put_signed(out: &mut FileText, at: usize, z: i64) -> Option<usize>
-    requires { at ≤ 16384 }
-    ensures { Wrote out.old at (signed_decimal z) out.new result }
-{
-    if z >= 0 {
-        return put_natural(out, at, z as u64);
+    // A number, and the byte that ends its word. The digits are those of `itoa`, which never fails: `write!` says nothing of
+    // an `Err`, nor when there is one, so that over it no proof could tell that there is always room.
+    pub(crate) fn number<I: Integer + Drop>(&mut self, n: I, end: u8)
+        requires { Room self.old (I.text n ++ (end ∷ [])) }
+        ensures { WritesOn self.old (I.text n ++ (end ∷ [])) self.new }
+    {
+        self.bytes(Buffer::new().format(n).as_bytes());
+        self.bytes(&[end]);
     }
-    let to = put_byte(out, at, b'-')?;
-    put_natural(out, to, z.unsigned_abs())
-}
 
-// A number without a sign and the byte that ends its word.
-pub(crate) fn put_size(out: &mut FileText, at: usize, n: u64, end: u8) -> Option<usize>
-    requires { at ≤ 16384 }
-    ensures { Wrote out.old at (decimal n ++ (end ∷ [])) out.new result }
-{
-    let to = put_natural(out, at, n)?;
-    put_byte(out, to, end)
-}
-
-// A number with a sign and the byte that ends its word.
-fn put_value(out: &mut FileText, at: usize, z: i64, end: u8) -> Option<usize>
-    requires { at ≤ 16384 }
-    ensures { Wrote out.old at (signed_decimal z ++ (end ∷ [])) out.new result }
-{
-    let to = put_signed(out, at, z)?;
-    put_byte(out, to, end)
-}
-
-// The line of the names of a term's values.
-pub(crate) fn put_names(out: &mut FileText, at: usize) -> Option<usize>
-    requires { at ≤ 16384 }
-    ensures { Wrote out.old at names out.new result }
-{
-    put_bytes(out, at, b"a b c num den\n")
-}
-
-// The line of a term's values.
-pub(crate) fn put_line(out: &mut FileText, at: usize, row: &Row) -> Option<usize>
-    requires { at ≤ 16384 }
-    ensures { Wrote out.old at (line row.now) out.new result }
-{
-    let a = put_size(out, at, row.a, b' ')?;
-    let b = put_size(out, a, row.b, b' ')?;
-    let c = put_size(out, b, row.c, b' ')?;
-    let num = put_value(out, c, row.num, b' ')?;
-    put_value(out, num, row.den, b'\n')
+    // The line of a term's values, number by number for the same reason.
+    pub(crate) fn line(&mut self, row: Row)
+        requires { Room self.old (line row) }
+        ensures { WritesOn self.old (line row) self.new }
+    {
+        self.number(row.a, b' ');
+        self.number(row.b, b' ');
+        self.number(row.c, b' ');
+        self.number(row.num, b' ');
+        self.number(row.den, b'\n');
+    }
 }

@@ -1,6 +1,6 @@
 use Rattle.std.proofs.Common.{◌∙◌, w64, SFits, rules}
 use Rattle.std.proofs.lemmas.Int.{to_z-of_z}
-use Rattle.files.proofs.Stand.{passed, passed_then, stands_size, stands_value, size_fits, value_fits, row_stands}
+use Rattle.files.proofs.Stand.{passes, passes_then, stands_size, stands_value, size_fits, value_fits, row_stands}
 use Rattle.files.proofs.line.term_values.Goals as goal
 
 pub returns : goal.returns
@@ -14,15 +14,15 @@ returns c =
     let k5 = c.in_ok-number-5.ensures in
     let e4 = to_z-of_z w64 c.value-num.result f ∙ c.value-num.ensures in
     let e5 = to_z-of_z w64 c.value-den.result g ∙ c.value-den.ensures in
-    let l1 = passed k1.kept (stands_size c.size-a.result c.size-a.ensures k1.read) in
-    let l2 = passed_then l1 k2.kept (stands_size c.size-b.result c.size-b.ensures k2.read) in
-    let l3 = passed_then l2 k3.kept (stands_size c.size-c.result c.size-c.ensures k3.read) in
-    let l4 = passed_then l3 k4.kept (stands_value _ e4 k4.read) in
-    let l5 = passed_then l4 k5.kept (stands_value _ e5 k5.read) in
+    let l1 = passes k1 (stands_size c.size-a.result c.size-a.ensures k1.read) in
+    let l2 = passes_then l1 k2 (stands_size c.size-b.result c.size-b.ensures k2.read) in
+    let l3 = passes_then l2 k3 (stands_size c.size-c.result c.size-c.ensures k3.read) in
+    let l4 = passes_then l3 k4 (stands_value _ e4 k4.read) in
+    let l5 = passes_then l4 k5 (stands_value _ e5 k5.read) in
     record {
       kept = l5.kept;
-      line = (
-        row_stands _ l5.line,
+      read = (
+        row_stands _ l5.read,
         record {
           a = size_fits _ c.size-a.ensures k1.read;
           b = size_fits _ c.size-b.ensures k2.read;

@@ -1,9 +1,5 @@
-use Rattle.std.proofs.Common.{◌-◌, length}
 use Rattle.files.proofs.Rows.{Through}
 use Rattle.files.proofs.read.values.Given as goal
 
-abbrev pub invariant-loop-reader : goal.invariant-loop-reader
-invariant-loop-reader l = Through l.initial.reader.text.now l.initial.reader.at l.initial.rows l.reader.text.now l.reader.at l.rows l.count
-
-abbrev pub decreases-loop-reader : goal.decreases-loop-reader
-decreases-loop-reader l = length l.initial.reader.text.now - l.reader.at
+abbrev pub invariant-loop-count : goal.invariant-loop-count
+invariant-loop-count l = Through l.initial.reader l.initial.rows l.reader l.rows l.count

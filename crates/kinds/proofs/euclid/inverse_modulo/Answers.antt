@@ -1,14 +1,9 @@
-use Rattle.std.proofs.Common.{◌≡◌, ◌+◌, ◌-◌, ◌%◌, ◌<◌, ◌≤◌, sym, refl, ap, ◌∙◌, mod-lt, mul-zero, mul-one, arith}
-use native.Mathlib.Nat.{zero-mod, mod_self}
+use Rattle.std.proofs.Common.{◌≡◌, ◌+◌, ◌-◌, ◌%◌, ◌<◌, ◌≤◌, sym, ap, ◌∙◌, mod-lt, arith}
+use native.Mathlib.Nat.{mod_self}
 use Rattle.algebra.specs.Gcd.{gcd, gcd_mod, gcd_zero, gcd_comm}
-use Rattle.algebra.specs.Remainders.{mul_mod_right, one_mod}
+use Rattle.algebra.specs.Remainders.{mul_mod_right}
 use Rattle.algebra.specs.Residues.{extended_step}
 use Rattle.kinds.proofs.euclid.inverse_modulo.Goals as goal
-
-pub loop-y-init : goal.loop-y-init
-loop-y-init c =
-    let m = c.args.m in
-    (refl, ap (λ t. t % m) (mul-zero c.args.a) ∙ zero-mod m ∙ sym (mod_self m), ap (λ t. t % m) (mul-one c.args.a), omega arith, omega arith, omega arith, omega arith)
 
 pub loop-y-preserved : goal.loop-y-preserved
 loop-y-preserved c =
@@ -24,11 +19,6 @@ loop-y-preserved c =
       h.6,
       (let p : l.y ≤ m = h.6 in let q : l.x % l.y < l.y = mod-lt l.x (omega (arith, c.loop-y-test.true)) in omega arith),
     )
-
-pub returns-then-x-eq1 : goal.returns-then-x-eq1
-returns-then-x-eq1 c =
-    let m = c.args.m in
-    (c.loop-y.invariant.3, c.loop-y.invariant.1 ∙ ap (λ t. t % m) c.if-x-eq1.true ∙ one_mod m (omega arith))
 
 pub returns-else-x-eq1 : goal.returns-else-x-eq1
 returns-else-x-eq1 c = λ e.

@@ -1,22 +1,21 @@
-use Rattle.std.proofs.Common.{◌≤◌, length, ap, ◌∙◌, arith}
-use Rattle.files.specs.Form.{line}
+use Rattle.std.proofs.Common.{List, ℕ, ap, ◌∙◌, subst, sym, rules}
 use Rattle.kinds.specs.Pairs.{put}
-use Rattle.writer.proofs.Lengths.{row_of, row_long}
+use Rattle.writer.specs.Steps.{Room, WritesOn}
+use Rattle.writer.proofs.Puts.{writes_none}
+use Rattle.writer.proofs.Terms.{term_line, term_none}
 use Rattle.writer.proofs.table.put_coefficient.Goals as goal
-use Rattle.writer.proofs.table.put_coefficient.Goals.{After-put_line}
 
-short : (c : goal.After-put_line) → length (line (row_of c.args.m.a c.args.m.b c.args.m.c c.pair-reduced.result)) ≤ 33
-short c =
-    row_long c.args.m.a c.args.m.b c.args.m.c c.args.value c.pair-reduced.result (omega arith) (c.pair-reduced.ensures ∙ ap put c.read.ensures)
+pub line-requires : goal.line-requires
+line-requires c =
+    let t = term_line c.args.m c.args.value _ (c.from-reduced.ensures ∙ ap put c.from.ensures) (search rules) (search rules) c.if-reduced-ne0.true in
+    subst (Room c.args.writer.now) t c.requires
 
-pub unreachable-requires : goal.unreachable-requires
-unreachable-requires c =
-    let s = short (goal.at.unreachable-requires c).After-put_line in
-    let full = c.in-None.ensures in
-    omega (arith, full.room, c.told-out)
+pub returns-then-reduced-ne0 : goal.returns-then-reduced-ne0
+returns-then-reduced-ne0 c =
+    let t = term_line c.args.m c.args.value _ (c.from-reduced.ensures ∙ ap put c.from.ensures) (search rules) (search rules) c.if-reduced-ne0.true in
+    subst (λ (bs : List ℕ). WritesOn c.args.writer.now bs c.line.new.self) (sym t) c.line.ensures
 
-pub returns : goal.returns
-returns c =
-    let s = short (goal.at.returns c).After-put_line in
-    let put = c.in-Some.ensures in
-    omega (arith, put.place)
+pub returns-else-reduced-ne0 : goal.returns-else-reduced-ne0
+returns-else-reduced-ne0 c =
+    let t = term_none c.args.m c.args.value _ (c.from-reduced.ensures ∙ ap put c.from.ensures) (search rules) c.if-reduced-ne0.false in
+    subst (λ (bs : List ℕ). WritesOn c.args.writer.now bs c.args.writer.now) (sym t) (writes_none c.args.writer.now c.args.writer.now.within)

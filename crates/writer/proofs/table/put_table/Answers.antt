@@ -1,32 +1,26 @@
-use Rattle.std.proofs.Common.{◌<◌, ◌≤◌, sym, subst, arith}
-use Rattle.monomials.specs.Dimensions.{size_of}
-use Rattle.monomials.specs.declared.dimension.Dimension.{Dimension}
-use Rattle.monomials.specs.declared.dimension.Dimension.TheVariants.{Plane, Space}
-use Rattle.monomials.proofs.Walks.{Walk, walk_start, walk_low, walk_on}
-use Rattle.writer.proofs.Lengths.{names_long}
+use Rattle.std.proofs.Common.{◌≡◌, [], inl, inr, length, refl, ap, ◌∙◌, arith, rules}
+use Rattle.std.proofs.lemmas.List.{length-append}
+use Rattle.files.specs.Form.{names}
+use Rattle.writer.specs.Terms.{terms}
+use Rattle.writer.proofs.Puts.{writes_then, put_start}
+use Rattle.writer.proofs.Terms.{begun_none, begun_more, begun_all, none_left, none_beside, term_room}
 use Rattle.writer.proofs.table.put_table.Goals as goal
 
-size_small : (d : Dimension) → size_of d ≤ 455
-size_small Plane = omega arith
-size_small Space = omega arith
+pub loop-m-init : goal.loop-m-init
+loop-m-init c = begun_none _ _ _ _ _ (search rules) (search rules) (search rules)
 
-pub unreachable-requires : goal.unreachable-requires
-unreachable-requires c = let full = c.in-None.ensures in omega (arith, full.room, c.told-out, names_long)
+pub put_coefficient-requires : goal.put_coefficient-requires
+put_coefficient-requires c = term_room c.loop-m.invariant _ _ _ (omega (arith, c.bytes.ensures.put.place, c.new-writer.ensures.start.1)) c.in-Some.ensures.steps.0
 
-pub loop-p-init : goal.loop-p-init
-loop-p-init c =
-    let put = c.in-Some.ensures in
-    (subst (Walk c.args.dimension 0) (sym c.one-m.ensures) (walk_start c.args.dimension), omega (arith, put.place, names_long))
-
-pub put_coefficient-to-requires : goal.put_coefficient-to-requires
-put_coefficient-to-requires c =
-    let lt : c.loop-p.p < size_of c.args.dimension = omega arith in
-    (omega (arith, c.loop-p.invariant.1, size_small c.args.dimension), walk_low c.args.dimension c.loop-p.p c.loop-p.m c.loop-p.invariant.0 lt)
-
-pub loop-p-preserved : goal.loop-p-preserved
-loop-p-preserved c =
-    let lt : c.loop-p.p < size_of c.args.dimension = omega arith in
-    (walk_on c.args.dimension c.loop-p.p c.loop-p.m c.next-m.result c.loop-p.invariant.0 lt c.next-m.ensures, omega (arith, c.loop-p.invariant.1, c.put_coefficient-to.ensures))
+pub loop-m-preserved : goal.loop-m-preserved
+loop-m-preserved c =
+    begun_more c.loop-m.invariant _ _ _ _ _ c.in-Some.ensures.steps.0 c.in-Some.ensures.steps.1 c.put_coefficient.ensures (length-append _ _)
 
 pub returns : goal.returns
-returns c = omega (arith, c.loop-p.invariant.1, size_small c.args.dimension)
+unfolding names
+returns c =
+    let t : terms c.loop-m.m-iterator.a c.loop-m.m-iterator.b.rest.now ≡ [] =
+    elim c.in-None.ensures.steps [ inl s ↦ none_left _ _ s.1.0 | inr s ↦ none_beside _ _ s.1.0 ] in
+    let p = writes_then c.bytes.ensures (begun_all c.loop-m.invariant t) in
+    let n = p.lent ∙ c.new-writer.ensures.lent in
+    record { file = put_start _ _ _ _ c.new-writer.ensures.start p refl (search rules) c.place.ensures; room = omega (arith, ap length c.new-writer.ensures.start.0, p.put.within) }

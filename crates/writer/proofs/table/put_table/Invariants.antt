@@ -1,6 +1,6 @@
-use Rattle.std.proofs.Common.{◌+◌, ◌*◌, ◌≤◌}
-use Rattle.monomials.proofs.Walks.{Walk}
+use Rattle.std.proofs.Common.{length}
+use Rattle.writer.proofs.Terms.{Begun}
 use Rattle.writer.proofs.table.put_table.Given as goal
 
-abbrev pub invariant-loop-p : goal.invariant-loop-p
-invariant-loop-p l = Walk l.dimension l.p l.m × (l.to ≤ 14 + 33 * l.p)
+abbrev pub invariant-loop-m : goal.invariant-loop-m
+invariant-loop-m l = Begun l.fn.dimension l.table l.initial.writer l.writer l.m-iterator.a l.m-iterator.b.rest.now (length l.yielded)

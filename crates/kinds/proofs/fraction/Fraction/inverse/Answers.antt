@@ -12,12 +12,12 @@ returns-then-self-eq0 c =
 pub invariant_of-result : goal.invariant_of-result
 invariant_of-result c = parts _ _ (turned_sound_neg c.args.self (omega (arith, ints)))
 
-pub invariant_of-result-2 : goal.invariant_of-result-2
-invariant_of-result-2 c = parts _ _ (turned_sound c.args.self (omega (arith, ints)))
+pub invariant_of-result-else-self-lt0 : goal.invariant_of-result-else-self-lt0
+invariant_of-result-else-self-lt0 c = parts _ _ (turned_sound c.args.self (omega (arith, ints)))
 
 pub returns-then-self-lt0 : goal.returns-then-self-lt0
 returns-then-self-lt0 c =
     turned_told_neg c.args.self _ (λ e. omega (arith, ints)) (omega (arith, ints)) (omega (arith, ints))
 
-pub returns : goal.returns
-returns c = turned_told c.args.self _ (λ e. omega (arith, ints)) (omega (arith, ints)) (omega (arith, ints))
+pub returns-else-self-lt0 : goal.returns-else-self-lt0
+returns-else-self-lt0 c = turned_told c.args.self _ (λ e. omega (arith, ints)) (omega (arith, ints)) (omega (arith, ints))

@@ -36,7 +36,7 @@ top-is : (c : goal.After-with_sign) → to_z w64 (of_z w64 c.with_sign.result) �
 top-is c =
     to_z-of_z w64 c.with_sign.result (record { sfits = c.with_sign.type_inv }) ∙ c.with_sign.ensures
     ∙ ap (λ t. signed t (c.unsigned_abs-n.result / c.common_divisor-g.result))
-    (c.differ.ensures ∙ ap₂ opposite (to_z-of_z w64 c.args.num c.ranges.num) (to_z-of_z w64 c.args.den c.ranges.den))
+    (ap₂ opposite (to_z-of_z w64 c.args.num c.ranges.num) (to_z-of_z w64 c.args.den c.ranges.den))
 
 bottom-is : (c : goal.After-with_sign) → to_z w64 (c.unsigned_abs-d.result / c.common_divisor-g.result) ≡ pos (c.unsigned_abs-d.result / c.common_divisor-g.result)
 bottom-is c = to_z_pos w64 _ (omega arith)

@@ -1,5 +1,0 @@
-use Rattle.tables.specs.Steps.{Past}
-use Rattle.tables.proofs.moves.shift.Given as goal
-
-abbrev pub invariant-loop-p : goal.invariant-loop-p
-invariant-loop-p g l = Past l.end l.initial.to l.to

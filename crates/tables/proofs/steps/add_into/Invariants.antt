@@ -1,5 +1,0 @@
-use Rattle.tables.specs.Steps.{Past}
-use Rattle.tables.proofs.steps.add_into.Given as goal
-
-abbrev pub invariant-loop-p : goal.invariant-loop-p
-invariant-loop-p g l = Past l.n l.initial.first l.first
