@@ -113,6 +113,23 @@ fn times_form<K: Kind>(
     quadratic(tables, moved, inverse, from, to, one, two)
 }
 
+// The table `power` times that form, so many times over, in its place.
+fn multiply_over<K: Kind>(
+    tables: Tables<'_, K>,
+    inverse: &Symmetric<K::Value>,
+    times: usize,
+    power: &mut [K::Value],
+    next: &mut [K::Value],
+    one: &mut [K::Value],
+    two: &mut [K::Value],
+) -> Result<(), Fault> {
+    for _ in 0..times {
+        times_form(tables, inverse, power, next, one, two)?;
+        copy(tables.size(), next, power);
+    }
+    Ok(())
+}
+
 // The solution for one homogeneous part, which `w` holds, joins the target: a term for each of its factors. The l-th is minus
 // the action on the one before, times its factor, and joins after l + 1 products with the form of the inverse matrix.
 fn join_terms<K: Kind>(
@@ -139,10 +156,7 @@ fn join_terms<K: Kind>(
         }
         tables.multiply(w, *factor)?;
         copy(size, w, power);
-        for _ in 0..=l {
-            times_form(tables, inverse, power, next, one, two)?;
-            copy(size, next, power);
-        }
+        multiply_over(tables, inverse, l + 1, power, next, one, two)?;
         tables.add_into(target, power)?;
     }
     Ok(())
