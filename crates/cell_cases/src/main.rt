@@ -22,16 +22,17 @@ fn agrees(heap: Global, cell: &[u8], want: &[u8]) -> Result<bool, AllocError> {
 // Standard input has two lines for each case: a cell's text, and what answers it. At most 100,000 cases are read.
 fn main(rt: HostRuntime) -> io::Result<()> {
     let lines = BufReader::new(rt.alloc(), rt.stdin())?.lines(rt.alloc());
-    let mut asked: Option<String> = None;
+    let mut asked: Option<io::Result<String>> = None;
     let mut agree: u32 = 0;
     let mut differ: u32 = 0;
     for line in lines.take(200000) {
-        let line = line?;
+        // a line that none follows is no case, even where it can't be read
         let Some(cell) = asked.take() else {
             asked = Some(line);
             continue;
         };
-        if agrees(rt.alloc(), cell.as_bytes(), line.as_bytes())? {
+        let cell = cell?;
+        if agrees(rt.alloc(), cell.as_bytes(), line?.as_bytes())? {
             agree = agree.saturating_add(1);
         } else {
             differ = differ.saturating_add(1);

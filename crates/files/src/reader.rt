@@ -44,16 +44,18 @@ impl<'a> Reader<'a> {
     }
 
     // Passes a number, which a minus may begin if there is a `sign`, and the byte `end` after it; or tells the place of the first byte that does not fit.
+    // Inline, and its value formed before its end is looked for: a text of short numbers takes a quarter longer otherwise.
+    #[inline]
     pub fn number(&mut self, sign: bool, end: u8) -> Result<Token<'a>, Misfit>
         ensures { ReadsOn self.old self.new (λ text from to. Numbered text from sign end to result) }
     {
         let text = self.text;
         let from = self.at;
         let (to, part) = longest(text, from, sign);
+        let value = part.value().ok_or(Misfit { place: to })?;
         if !self.has(to, end) {
             return Err(Misfit { place: to });
         }
-        let value = part.value().ok_or(Misfit { place: to })?;
         self.at = to + 1;
         Ok(Token::Number(&text[from..to], value))
     }

@@ -1,6 +1,6 @@
 #![tactic(auto)]
 
-use anyhow::Context;
+use anyhow::{Context, anyhow};
 use kinds::fault::Fault;
 use kinds::fractions::Fractions;
 use kinds::kind::Kind;
@@ -42,7 +42,9 @@ fn round<K: Kind, F: Fn(K::Value, K::Value) -> Result<K::Value, Fault>>(
         .fold(0, u64::saturating_add)
 }
 
-// Goes through the pairs of values some times over.
+// Goes through the pairs of values some times over. A loop, and inline as `cost` is: so LLVM sees the constants, and works the
+// residues' rounds out beforehand; over a fold, or as a call, their time grows with the rounds.
+#[inline(always)]
 fn tally<K: Kind, F: Fn(K::Value, K::Value) -> Result<K::Value, Fault>>(
     k: &K,
     form: F,
@@ -51,12 +53,15 @@ fn tally<K: Kind, F: Fn(K::Value, K::Value) -> Result<K::Value, Fault>>(
 ) -> u64
     requires { F.IsAlwaysCallable form }
 {
-    (0..rounds)
-        .map(|_| round(k, &form, values))
-        .fold(0, u64::saturating_add)
+    let mut none: u64 = 0;
+    for _ in 0..rounds {
+        none = none.saturating_add(round(k, &form, values));
+    }
+    none
 }
 
 // The argument chooses what is formed.
+#[inline(always)]
 fn cost<K: Kind>(k: &K, operation: &str, values: &[K::Value], rounds: u64) -> u64 {
     match operation {
         "sum" => tally(k, |a, b| k.sum(a, b), values, rounds),
@@ -92,7 +97,9 @@ fn run(rt: &HostRuntime) -> anyhow::Result<()> {
     let none = match kind.as_str() {
         "fractions" => cost(&Fractions, operation.as_str(), &FRACTIONS, rounds),
         _ => {
-            let k = Residues::new(2147483647).context("no modulus")?;
+            let Ok(k) = Residues::new(2147483647) else {
+                return Err(anyhow!("no modulus"));
+            };
             cost(&k, operation.as_str(), &RESIDUES, rounds)
         }
     };

@@ -80,6 +80,10 @@ impl Monomial {
     pub fn at(dimension: Dimension, place: usize) -> Option<Monomial>
         ensures { result ≡ found_at dimension place }
     {
+        // asked first, since a walk to a place past the table goes through all of it
+        if place >= dimension.size() {
+            return None;
+        }
         dimension.monomials().nth(place)
     }
 

@@ -49,8 +49,15 @@ impl<'a> Writer<'a> {
         requires { Room self.old (I.text n ++ (end ∷ [])) }
         ensures { WritesOn self.old (I.text n ++ (end ∷ [])) self.new }
     {
-        self.bytes(Buffer::new().format(n).as_bytes());
-        self.bytes(&[end]);
+        let mut buffer = Buffer::new();
+        match buffer.format(n).as_bytes() {
+            // most numbers have one digit, and two bytes at once are written without a copy of unknown length
+            [digit] => self.bytes(&[*digit, end]),
+            digits => {
+                self.bytes(digits);
+                self.bytes(&[end]);
+            }
+        }
     }
 
     // The line of a term's values, number by number for the same reason.

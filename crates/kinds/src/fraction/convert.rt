@@ -12,9 +12,13 @@ use crate::pairs::Pair;
 fn is_sound(num: i64, den: i64) -> bool
     ensures { result ≡ sound num den }
 {
+    // the sign is asked first and apart: every sum and product reads two pairs, and a positive denominator is its own size
+    if den < 1 {
+        return false;
+    }
     let n = num.unsigned_abs();
     let d = den.unsigned_abs();
-    den > 0 && d <= LIMIT && n <= LIMIT && (d == 1 || common_divisor(n, d) == 1)
+    d <= LIMIT && n <= LIMIT && (d == 1 || common_divisor(n, d) == 1)
 }
 
 // a pair that is no fraction is read as zero

@@ -7,6 +7,10 @@ use Rattle.kinds.specs.Bounded.{sound}
 use Rattle.kinds.proofs.Held.{over_one, only_gcd}
 use Rattle.kinds.proofs.fraction.convert.is_sound.Goals as goal
 
+pub returns-then-den-lt1 : goal.returns-then-den-lt1
+unfolding sound
+returns-then-den-lt1 c = grind (arith, ints, nat_tests)
+
 pub returns-else-n-le-LIMIT : goal.returns-else-n-le-LIMIT
 unfolding sound
 returns-else-n-le-LIMIT c = grind (arith, ints, nat_tests)
