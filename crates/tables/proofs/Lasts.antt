@@ -1,12 +1,20 @@
--- The last degree of the coefficients that are not zero.
-use Rattle.std.proofs.Common.{◌≡◌, ℕ, suc, ◌≤◌, Bool, true, false, not, List, [], ◌∷◌, map, filter, zip, fold, cond, Some, None, Option, IfSome, refl, arith}
+-- The last degree of a chain through the coefficients that are not zero.
+use Rattle.std.proofs.Common.{◌≡◌, ℕ, suc, ◌≤◌, Bool, true, false, not, List, [], ◌∷◌, map, filter, zip, Some, None, Option, IfSome, sym, refl, ap, ◌∙◌, arith}
+use Rattle.std.specs.Iterator.{Drains}
 use Rattle.std.specs.List.{All, last_or}
+use Rattle.std.proofs.lemmas.Iterator.{YieldsList, items_from_drains}
+use Rattle.std.proofs.lemmas.List.{map-id}
 use Rattle.kinds.specs.Arith.{Arith, zero_test}
 use Rattle.monomials.specs.declared.dimension.Dimension.{Dimension}
 use Rattle.monomials.specs.declared.monomial.Monomial.{Monomial}
 use Rattle.monomials.specs.Places.{exponents, monomials_from}
 use Rattle.monomials.proofs.Listed.{all_low}
 use Rattle.tables.specs.Degrees.{last_degree}
+
+-- what `last` answers, of a chain that gives a list
+pub last_from_yields_List : {S A : Type 0} {steps : S → Option A → S → Type 0} {s : S} {all : List A} (r : Option A) → ((xs : List A) × Drains steps s xs × (r ≡ last_or None xs)) → YieldsList steps (λ x. x) s all → r ≡ last_or None all
+last_from_yields_List r h road =
+    h.2 ∙ ap (last_or None) (sym (map-id h.0) ∙ items_from_drains h.0 (h.1.1.0, h.1.1.1, λ _. (h.1.0, h.1.1.2)) road)
 
 module _ {V : Type 0} (keeps : V → Bool) where
   abbrev degrees : List Monomial → List V → List ℕ
@@ -25,16 +33,3 @@ module _ {V : Type 0} (keeps : V → Bool) where
 
 pub last_degree_low : {V : Type 0} (A : Arith V) (d : Dimension) (xs : List V) → IfSome (last_degree A d xs) (λ n. n ≤ 12)
 last_degree_low A d xs = last_low (λ v. not (zero_test A v)) None (monomials_from d 0) xs tt (all_low d)
-
-module _ {V : Type 0} (A : Arith V) where
-  -- the degree that is kept once a coefficient is seen beside its monomial
-  abbrev pub seen : Option ℕ → Monomial × V → Option ℕ
-  seen top p = cond (zero_test A p.1) top (Some (exponents p.0))
-
-  pub seen_last : (o : Option ℕ) (ps : List (Monomial × V)) → fold seen o ps ≡ last_or o (map (λ p. exponents p.0) (filter (λ p. not (zero_test A p.1)) ps))
-  seen_last o [] = refl
-  seen_last o (p ∷ ps) = go (zero_test A p.1) refl (seen_last o ps) (seen_last (Some (exponents p.0)) ps)
-    where
-      go : (b : Bool) → zero_test A p.1 ≡ b → fold seen o ps ≡ last_or o (map (λ q. exponents q.0) (filter (λ q. not (zero_test A q.1)) ps)) → fold seen (Some (exponents p.0)) ps ≡ last_or (Some (exponents p.0)) (map (λ q. exponents q.0) (filter (λ q. not (zero_test A q.1)) ps)) → fold seen o (p ∷ ps) ≡ last_or o (map (λ q. exponents q.0) (filter (λ q. not (zero_test A q.1)) (p ∷ ps)))
-      go true e left kept = rw e left
-      go false e left kept = rw e kept

@@ -21,16 +21,11 @@ impl<K: Kind> Tables<'_, K> {
         ensures value { result ≡ last_degree (K.Kind.arith self.entry.kind.now) self.entry.dimension table.now }
         ensures bound { IfSome result (λ n. n ≤ 12) }
     {
-        // one fold: a chain of `filter`, `map` and `last` takes a quarter longer
         self.dimension
             .monomials()
             .zip(table)
-            .fold(None, |top, (m, v)| {
-                if self.kind.is_zero(*v) {
-                    top
-                } else {
-                    Some(m.degree())
-                }
-            })
+            .filter(|(_, v)| !self.kind.is_zero(**v))
+            .map(|(m, _)| m.degree())
+            .last()
     }
 }
